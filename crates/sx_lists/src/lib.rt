@@ -1,0 +1,13 @@
+//! Lists that a contract sees as lists, and copies that are equal to their originals.
+#![tactic(auto)]
+
+mod compare;
+mod copies;
+mod lists;
+mod reserved;
+mod same;
+
+pub use copies::{Copied, copies_of};
+pub use lists::List;
+pub use reserved::Reserved;
+pub use same::Same;
