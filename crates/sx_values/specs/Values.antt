@@ -1,0 +1,32 @@
+-- Values, their order and their kinds.
+use Rattle.std.specs.Prelude.{ℕ, List, Bool, Option, Some}
+use Rattle.std.specs.Ordering.{int_cmp, nat_cmp, is_eq}
+use Rattle.std.specs.Cmp.Lexicographic.{slice_cmp}
+use Rattle.std.specs.declared.cmp.Ordering.{Ordering}
+use Rattle.std.specs.declared.cmp.Ordering.TheVariants.{Less, Equal, Greater}
+use Rattle.sx_values.specs.declared.value.Value.{Value}
+use Rattle.sx_values.specs.declared.value.Value.TheVariants.{Null, Int, Text}
+
+-- Null stands before numbers and numbers before texts; numbers by size, texts by bytes
+abbrev pub value_cmp : Value → Value → Ordering
+value_cmp Null Null = Equal
+value_cmp Null (Int j) = Less
+value_cmp Null (Text t) = Less
+value_cmp (Int i) Null = Greater
+value_cmp (Int i) (Int j) = int_cmp i j
+value_cmp (Int i) (Text t) = Less
+value_cmp (Text s) Null = Greater
+value_cmp (Text s) (Int j) = Greater
+value_cmp (Text s) (Text t) = slice_cmp nat_cmp s t
+
+-- whether two values tie in that order
+abbrev pub value_eq : Value → Value → Bool
+value_eq v w = is_eq (value_cmp v w)
+
+-- lists of values are compared from the front, a prefix first
+abbrev pub values_cmp : List Value → List Value → Ordering
+values_cmp = slice_cmp value_cmp
+
+-- the same, as an answer that may be none but never is
+abbrev pub value_partial_cmp : Value → Value → Option Ordering
+value_partial_cmp v w = Some (value_cmp v w)

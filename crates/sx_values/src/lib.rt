@@ -1,0 +1,27 @@
+//! Values, texts, names, rows, keys, schemas and the catalog of declared tables.
+#![tactic(auto)]
+
+mod catalog;
+mod name;
+mod text;
+mod value;
+mod row;
+mod schema;
+
+pub use catalog::{CatalogFault, Declared};
+pub use name::{Name, NameFault};
+pub use row::{Key, Row};
+pub use schema::{BadRow, Column, Kind, Schema, SchemaFault};
+pub use text::{Text, TextFault};
+pub use value::Value;
+
+use sx_lists::List;
+
+/// The columns of a schema, in order.
+pub type Columns = List<Column>;
+
+/// Places or other numbers, in order.
+pub type Numbers = List<u64>;
+
+/// Names, in order.
+pub type Names = List<Name>;
