@@ -6,7 +6,7 @@ use Rattle.std.specs.declared.cmp.Ordering.{Ordering}
 use Rattle.sx_values.specs.Names.{same_name}
 use Rattle.sx_values.specs.Values.{value_cmp}
 use Rattle.sx_values.specs.Layouts.{Layout, is_null}
-use Rattle.sx_values.specs.Catalogs.{columns_of}
+use Rattle.sx_values.specs.Catalogs.{declared_as}
 use Rattle.sx_values.specs.declared.value.Value.{Value}
 use Rattle.sx_values.specs.declared.value.Value.TheVariants.{Null}
 use Rattle.sx_values.specs.declared.schema.Column.{Column}
@@ -66,6 +66,14 @@ targets_of (Union left right into) = into ∷ []
 abbrev pub split_rows : List Column → List Test → List (List (List Value)) → List (List (List Value))
 split_rows columns tests [] = []
 split_rows columns tests (rows ∷ others) = rows_passing columns tests rows ∷ rows_failing columns tests rows ∷ []
+
+-- the columns of the table of this name; none where there is no such table
+abbrev pub columns_in : Option Declared → List Column
+columns_in None = []
+columns_in (Some table) = table.schema.columns
+
+abbrev pub columns_of : List Declared → List ℕ → List Column
+columns_of catalog name = columns_in (declared_as catalog name)
 
 -- the rows of the new tables, from the rows of each source in key order; each other operator brings its own case
 abbrev pub operator : List Declared → Spec → List (List (List Value)) → List (List (List Value))
