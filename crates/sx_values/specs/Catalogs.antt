@@ -1,14 +1,8 @@
 -- The catalog of tables: their names, schemas and indexes.
-use Rattle.std.specs.Prelude.{◌≡◌, ◌≤◌, ◌&&◌, ◌++◌, Bool, true, false, IsTrue, not, ℕ, List, [], ◌∷◌, length, map, find, option_map, Option, Some, None, All, nat_lt, if◌then◌else◌}
-use Rattle.std.specs.List.{list_any, list_all, find}
-use Rattle.std.specs.Cmp.Lexicographic.{pointwise}
-use Rattle.sx_lists.specs.Answers.{or_later}
-use Rattle.sx_values.specs.Names.{same_name, has_name}
-use Rattle.sx_values.specs.Layouts.{Layout, IsLayout}
-use Rattle.sx_values.specs.SchemaFaults.{names_of}
+use Rattle.std.specs.Prelude.{ℕ, List, [], ◌∷◌, map, option_map, Option, Some, None, if◌then◌else◌}
+use Rattle.sx_values.specs.Names.{same_name}
+use Rattle.sx_values.specs.Layouts.{Layout}
 use Rattle.sx_values.specs.declared.catalog.Declared.{Declared}
-use Rattle.sx_values.specs.declared.catalog.CatalogFault.{CatalogFault}
-use Rattle.sx_values.specs.declared.catalog.CatalogFault.TheVariants as fault
 
 -- the table of this name, if there is one
 abbrev pub declared_as : List Declared → List ℕ → Option Declared

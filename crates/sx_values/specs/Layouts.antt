@@ -1,7 +1,7 @@
 -- Columns, keys and the rows that a schema admits.
-use Rattle.std.specs.Prelude.{◌≡◌, ◌+◌, ◌≤◌, ◌<◌, ◌==◌, ◌&&◌, not, Bool, true, false, ℕ, List, [], ◌∷◌, length, map, get_or, All, Option, Some, None, Result, nat_eq, slice_get, if◌then◌else◌}
+use Rattle.std.specs.Prelude.{◌≡◌, ◌+◌, ◌≤◌, ◌<◌, ◌==◌, Bool, true, false, ℕ, List, [], ◌∷◌, length, map, get_or, All, Option, Some, None, nat_eq, slice_get, if◌then◌else◌}
 use Rattle.std.specs.List.{list_all, filter_map, IsDistinct}
-use Rattle.sx_lists.specs.Answers.{or_later, unless}
+use Rattle.sx_lists.specs.Answers.{or_later}
 use Rattle.sx_values.specs.declared.value.Value.{Value}
 use Rattle.sx_values.specs.declared.value.Value.TheVariants.{Null, Int, Text}
 use Rattle.sx_values.specs.declared.schema.Kind.{Kind}

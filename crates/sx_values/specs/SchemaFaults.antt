@@ -1,5 +1,5 @@
 -- Why columns and a key are no schema, by cases in order.
-use Rattle.std.specs.Prelude.{◌≡◌, ◌+◌, ◌==◌, Bool, true, false, ℕ, List, [], ◌∷◌, length, map, Option, Some, None, nat_lt, slice_get, if◌then◌else◌}
+use Rattle.std.specs.Prelude.{◌≡◌, ◌+◌, ◌==◌, Bool, false, ℕ, List, [], ◌∷◌, length, map, Option, Some, None, nat_lt, slice_get, if◌then◌else◌}
 use Rattle.sx_lists.specs.Answers.{or_later}
 use Rattle.sx_values.specs.Names.{repeated_name}
 use Rattle.sx_values.specs.Layouts.{Layout}

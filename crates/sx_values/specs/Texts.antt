@@ -1,5 +1,5 @@
 -- The bytes of texts and of names.
-use Rattle.std.specs.Prelude.{◌≡◌, ◌≢◌, ◌≤◌, ◌⊎◌, ◌&&◌, ◌||◌, ◌==◌, Bool, true, false, not, IsTrue, ℕ, List, [], ◌∷◌, length, nat_le, codes}
+use Rattle.std.specs.Prelude.{◌&&◌, ◌||◌, ◌==◌, Bool, false, not, ℕ, List, [], ◌∷◌, length, nat_le, codes}
 use Rattle.std.specs.List.{list_all}
 use Rattle.std.specs.Cmp.Lexicographic.{pointwise}
 

@@ -1,5 +1,5 @@
 -- Values, their order and their kinds.
-use Rattle.std.specs.Prelude.{ℕ, List, Bool, Option, Some}
+use Rattle.std.specs.Prelude.{List, Bool, Option, Some}
 use Rattle.std.specs.Ordering.{int_cmp, nat_cmp, is_eq}
 use Rattle.std.specs.Cmp.Lexicographic.{slice_cmp}
 use Rattle.std.specs.declared.cmp.Ordering.{Ordering}

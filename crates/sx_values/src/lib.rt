@@ -3,19 +3,18 @@
 
 mod catalog;
 mod name;
-mod text;
-mod value;
 mod row;
 mod schema;
+mod text;
+mod value;
 
 pub use catalog::{CatalogFault, Declared};
 pub use name::{Name, NameFault};
 pub use row::{Key, Row};
 pub use schema::{BadRow, Column, Kind, Schema, SchemaFault};
+use sx_lists::List;
 pub use text::{Text, TextFault};
 pub use value::Value;
-
-use sx_lists::List;
 
 /// The columns of a schema, in order.
 pub type Columns = List<Column>;

@@ -17,7 +17,7 @@ impl Model for Name {
     ghost use Rattle.std.specs.Prelude.{List, ℕ, IsTrue};
     ghost use Rattle.std.specs.Coded.{coded_list, coded_ℕ};
     ghost use Rattle.std.specs.List.{list_all};
-ghost use Rattle.sx_values.specs.Texts.{is_name, is_lower, is_name_byte};
+    ghost use Rattle.sx_values.specs.Texts.{is_name, is_lower, is_name_byte};
 
     ghost Value = { List ℕ };
 
@@ -83,9 +83,7 @@ fn is_name(bytes: &[u8]) -> bool
 {
     match bytes {
         [] => false,
-        [first, rest @ ..] => {
-            is_lower(*first) && rest.len() <= 31 && are_name_bytes(rest)
-        }
+        [first, rest @ ..] => { is_lower(*first) && rest.len() <= 31 && are_name_bytes(rest) }
     }
 }
 
