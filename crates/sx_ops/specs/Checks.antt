@@ -1,5 +1,5 @@
 -- Which transformations fit a catalog, and why one doesn't.
-use Rattle.std.specs.Prelude.{◌≡◌, ◌≤◌, ◌+◌, ◌||◌, ⊤, ⊥, Bool, true, false, not, IsTrue, ℕ, List, [], ◌∷◌, length, is_some, Option, Some, None, if◌then◌else◌}
+use Rattle.std.specs.Prelude.{◌≡◌, ◌≤◌, ◌+◌, ◌||◌, ⊤, Bool, true, false, not, IsTrue, ℕ, List, [], ◌∷◌, length, is_some, Option, Some, None, if◌then◌else◌}
 use Rattle.std.specs.List.{list_any}
 use Rattle.sx_lists.specs.Answers.{or_later}
 use Rattle.sx_values.specs.Names.{same_name, has_name}
@@ -19,7 +19,7 @@ use Rattle.sx_ops.specs.declared.spec.SpecFault.TheVariants as fault
 
 -- a transformation that is a horizontal split
 abbrev pub IsPart : Spec → Type 0
-IsPart (Part table tests yes no) = ⊤
+IsPart (Part table tests passing failing) = ⊤
 IsPart (Join left right on_left on_right into) = ⊥
 IsPart (Split table by dep rest dependent) = ⊥
 IsPart (Union left right into) = ⊥
@@ -32,7 +32,7 @@ pub record AreTests (tests : List Test) : Type 0 where
 
 -- a horizontal split with the numbers that its text allows
 abbrev pub IsShaped : Spec → Type 0
-IsShaped (Part table tests yes no) = AreTests tests
+IsShaped (Part table tests passing failing) = AreTests tests
 IsShaped (Join left right on_left on_right into) = ⊥
 IsShaped (Split table by dep rest dependent) = ⊥
 IsShaped (Union left right into) = ⊥
@@ -64,20 +64,20 @@ is_declared catalog name = is_some (declared_as catalog name)
 
 -- the first new name that is taken
 abbrev pub names_fault : List Declared → List ℕ → List ℕ → Option SpecFault
-names_fault catalog yes no =
-    if is_declared catalog yes then Some (fault.NameTaken yes)
-    else if is_declared catalog no || same_name yes no then Some (fault.NameTaken no)
+names_fault catalog passing failing =
+    if is_declared catalog passing then Some (fault.NameTaken passing)
+    else if is_declared catalog failing || same_name passing failing then Some (fault.NameTaken failing)
     else None
 
 -- the first fault of a horizontal split of the table that the catalog has under its source's name
 abbrev pub part_fault : List Declared → Option Declared → List ℕ → List Test → List ℕ → List ℕ → Option SpecFault
-part_fault catalog None table tests yes no = Some (fault.NoTable table)
-part_fault catalog (Some source) table tests yes no =
-    or_later (column_fault source.schema.columns tests) (or_later (types_fault 1 source.schema.columns tests) (names_fault catalog yes no))
+part_fault catalog None table tests passing failing = Some (fault.NoTable table)
+part_fault catalog (Some source) table tests passing failing =
+    or_later (column_fault source.schema.columns tests) (or_later (types_fault 1 source.schema.columns tests) (names_fault catalog passing failing))
 
 -- the first fault of a transformation, in the order of the refusals; each other operator brings its own case
 abbrev pub spec_fault : List Declared → Spec → Option SpecFault
-spec_fault catalog (Part table tests yes no) = part_fault catalog (declared_as catalog table) table tests yes no
+spec_fault catalog (Part table tests passing failing) = part_fault catalog (declared_as catalog table) table tests passing failing
 spec_fault catalog (Join left right on_left on_right into) = None
 spec_fault catalog (Split table by dep rest dependent) = None
 spec_fault catalog (Union left right into) = None

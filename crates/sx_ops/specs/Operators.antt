@@ -52,14 +52,14 @@ rows_failing columns tests rows = filter (λ row. not (passes columns tests row)
 abbrev pub sources_of : Spec → List (List ℕ)
 sources_of (Join left right on_left on_right into) = left ∷ right ∷ []
 sources_of (Split table by dep rest dependent) = table ∷ []
-sources_of (Part table tests yes no) = table ∷ []
+sources_of (Part table tests passing failing) = table ∷ []
 sources_of (Union left right into) = left ∷ right ∷ []
 
 -- the names of its new tables, in order
 abbrev pub targets_of : Spec → List (List ℕ)
 targets_of (Join left right on_left on_right into) = into ∷ []
 targets_of (Split table by dep rest dependent) = rest ∷ dependent ∷ []
-targets_of (Part table tests yes no) = yes ∷ no ∷ []
+targets_of (Part table tests passing failing) = passing ∷ failing ∷ []
 targets_of (Union left right into) = into ∷ []
 
 -- both new tables of a horizontal split, from the rows of its source
@@ -77,7 +77,7 @@ columns_of catalog name = columns_in (declared_as catalog name)
 
 -- the rows of the new tables, from the rows of each source in key order; each other operator brings its own case
 abbrev pub operator : List Declared → Spec → List (List (List Value)) → List (List (List Value))
-operator catalog (Part table tests yes no) sources = split_rows (columns_of catalog table) tests sources
+operator catalog (Part table tests passing failing) sources = split_rows (columns_of catalog table) tests sources
 operator catalog (Join left right on_left on_right into) sources = []
 operator catalog (Split table by dep rest dependent) sources = []
 operator catalog (Union left right into) sources = []
