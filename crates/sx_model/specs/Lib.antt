@@ -1,0 +1,9 @@
+pub mod Leaves
+pub mod Legal
+pub mod Logs
+pub mod Openings
+pub mod Replies
+pub mod Scans
+pub mod Schedules
+pub mod Switches
+pub mod Tables
