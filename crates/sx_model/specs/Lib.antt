@@ -1,5 +1,7 @@
+pub mod Built
 pub mod Leaves
 pub mod Legal
+pub mod Loads
 pub mod Logs
 pub mod Openings
 pub mod Replies

@@ -13,7 +13,7 @@ use Rattle.sx_journal.specs.declared.entry.Request.{Request}
 use Rattle.sx_journal.specs.declared.entry.Request.TheVariants as request
 use Rattle.sx_journal.specs.declared.entry.Reply.{Reply}
 use Rattle.sx_journal.specs.declared.entry.Reply.TheVariants as reply
-use Rattle.sx_model.specs.Openings.{Opening, opening_log, key_in}
+use Rattle.sx_model.specs.Openings.{Opening, key_in}
 use Rattle.sx_model.specs.Leaves.{txn_of}
 
 -- the record of a write behind a log: the image before is the row that the key has now
@@ -47,7 +47,7 @@ entry_record o past log e = reply_record o.catalog log (unwrap_or (txn_of past e
 
 -- the log: the records of the loaded rows, and then one for each reply that makes one
 abbrev pub log_of : Opening → List Entry → List Rec
-log_of o [] = opening_log o
+log_of o [] = o.loads
 log_of o (e ∷ past) = option_to_list (entry_record o past (log_of o past) e) ++ log_of o past
 
 -- the LSN that the next record gets

@@ -8,10 +8,10 @@ use Rattle.sx_log.specs.declared.record.Rec.{Rec}
 use Rattle.sx_log.specs.declared.record.Load.{Load}
 use Rattle.sx_log.specs.declared.record.Body.TheVariants.{Write}
 
--- the declared tables, and the loaded rows in order
+-- the declared tables, and the records of the loaded rows, seen newest first
 pub record Opening : Type 0 where
   pub catalog : List Declared
-  pub loads : List Load
+  pub loads : List Rec
 
 -- the key of a row of a table with this schema; a table that isn't declared has no keys
 abbrev pub key_under : Option Layout → List Value → List Value
@@ -26,6 +26,6 @@ key_in catalog table row = key_under (schema_of catalog table) row
 abbrev pub load_record : List Declared → Load → Rec
 load_record catalog load = record { txn = 0; body = Write load.table (key_in catalog load.table load.row) None (Some load.row) }
 
--- the log before the first event, seen newest first: a record for each loaded row
-abbrev pub opening_log : Opening → List Rec
-opening_log o = reverse (map (load_record o.catalog) o.loads)
+-- what these tables and these loaded rows open: a record for each row, in their order
+abbrev pub opening : List Declared → List Load → Opening
+opening catalog loads = record { catalog = catalog; loads = reverse (map (load_record catalog) loads) }

@@ -10,7 +10,7 @@ use Rattle.sx_journal.specs.declared.entry.Entry.{Entry}
 use Rattle.sx_journal.specs.declared.entry.Event.{Event}
 use Rattle.sx_journal.specs.declared.entry.Event.TheVariants.{Client, Start, Scan, Fetch, Check, Switch, Cancel}
 use Rattle.sx_journal.specs.declared.entry.Request.{Request}
-use Rattle.sx_model.specs.Openings.{Opening}
+use Rattle.sx_model.specs.Openings.{Opening, opening}
 use Rattle.sx_model.specs.Leaves.{phase}
 
 -- a client's line
@@ -28,7 +28,7 @@ pub record Plan : Type 0 where
 
 -- the opening that a script gives
 abbrev pub opening_of : Plan → Opening
-opening_of plan = record { catalog = plan.catalog; loads = plan.loads }
+opening_of plan = opening plan.catalog plan.loads
 
 -- the entries of a client
 abbrev pub own : ℕ → List Entry → List Entry
