@@ -4,12 +4,11 @@ use Rattle.sx_ops.specs.declared.spec.Spec.{Spec}
 use Rattle.sx_sync.specs.declared.Strategy.{Strategy}
 use Rattle.sx_sync.specs.declared.Strategy.TheVariants.{Blocking, NonBlockingAbort, NonBlockingCommit}
 use Rattle.sx_sync.specs.declared.Phase.{Phase}
-use Rattle.sx_sync.specs.declared.Phase.TheVariants.{Idle, Scanning, Chasing, Draining, Late, Done}
+use Rattle.sx_sync.specs.declared.Phase.TheVariants.{Idle, Scanning, Chasing, Draining, Done}
 use Rattle.sx_journal.specs.declared.entry.Entry.{Entry}
 use Rattle.sx_journal.specs.declared.entry.Event.{Event}
 use Rattle.sx_journal.specs.declared.entry.Event.TheVariants as event
-use Rattle.sx_journal.specs.declared.entry.Reply.{Reply}
-use Rattle.sx_journal.specs.declared.entry.Reply.TheVariants as reply
+use Rattle.sx_model.specs.Effects.{Effect, Nothing, Reads, Begins, Writes, Undoes, Commits, Aborts, Starts, Sees, Fetches, Checks, Conflicts, Violates, Switches, Cancels, effect}
 
 -- a client with its live transaction
 pub record Living : Type 0 where
@@ -21,16 +20,16 @@ abbrev pub without : ℕ → List Living → List Living
 without client living = filter (λ (l : Living). not (l.client == client)) living
 
 -- who lives after a reply to an actor
-unfoldable pub living_after : ℕ → Reply → List Living → List Living
-living_after actor (reply.Begun txn) living = record { client = actor; txn = txn } ∷ living
-living_after actor (reply.Committed lsn) living = without actor living
-living_after actor (reply.Aborted lsn) living = without actor living
+abbrev pub living_after : ℕ → Effect → List Living → List Living
+living_after actor (Begins txn) living = record { client = actor; txn = txn } ∷ living
+living_after actor Commits living = without actor living
+living_after actor Aborts living = without actor living
 living_after actor other living = living
 
 -- the live transactions: begun, and neither committed nor aborted
 abbrev pub living : List Entry → List Living
 living [] = []
-living (e ∷ past) = living_after e.actor e.reply (living past)
+living (e ∷ past) = living_after e.actor (effect e.reply) (living past)
 
 -- the transaction of a client among these
 abbrev pub txn_among : List Living → ℕ → Option ℕ
@@ -41,14 +40,14 @@ txn_among (l ∷ others) client = if l.client == client then Some l.txn else txn
 abbrev pub txn_of : List Entry → ℕ → Option ℕ
 txn_of past client = txn_among (living past) client
 
-unfoldable pub begun_after : Reply → ℕ → ℕ
-begun_after (reply.Begun txn) begun = begun + 1
+abbrev pub begun_after : Effect → ℕ → ℕ
+begun_after (Begins txn) begun = begun + 1
 begun_after other begun = begun
 
 -- how many transactions were begun
 abbrev pub begun : List Entry → ℕ
 begun [] = 0
-begun (e ∷ past) = begun_after e.reply (begun past)
+begun (e ∷ past) = begun_after (effect e.reply) (begun past)
 
 -- a transformation as it was started
 pub record Started : Type 0 where
@@ -56,15 +55,20 @@ pub record Started : Type 0 where
   pub strategy : Strategy
   pub mark : ℕ
 
--- the transformation that an event started, if the reply says so
-unfoldable pub started_by : Event → Reply → Option Started → Option Started
-started_by (event.Start spec strategy) (reply.Started lsn) earlier = Some (record { spec = spec; strategy = strategy; mark = lsn })
-started_by other answer earlier = earlier
+-- the transformation that an event started, with its Mark at this place
+abbrev pub started_as : Event → ℕ → Option Started → Option Started
+started_as (event.Start spec strategy) mark earlier = Some (record { spec = spec; strategy = strategy; mark = mark })
+started_as other mark earlier = earlier
+
+-- the same, if the reply says that it started
+abbrev pub started_by : Event → Effect → Option Started → Option Started
+started_by asked (Starts mark) earlier = started_as asked mark earlier
+started_by asked other earlier = earlier
 
 -- the transformation that was started last, with the LSN of its Mark
 abbrev pub started : List Entry → Option Started
 started [] = None
-started (e ∷ past) = started_by e.event e.reply (started past)
+started (e ∷ past) = started_by e.event (effect e.reply) (started past)
 
 abbrev pub is_blocking : Strategy → Bool
 is_blocking Blocking = true
@@ -77,16 +81,16 @@ drains None = false
 drains (Some s) = is_blocking s.strategy
 
 -- how far a transformation has come after a reply, where no transaction is old
-unfoldable pub phase_after : Option Started → Reply → Phase → Phase
-phase_after s (reply.Started lsn) phase = Scanning
-phase_after s (reply.Scanned side lsns last) phase = if last then Chasing else phase
-phase_after s (reply.Violated first second) phase = Chasing
-phase_after s (reply.Conflict txn) phase = if drains s then Draining else phase
-phase_after s (reply.Switched lsn) phase = Done
-phase_after s reply.Cancelled phase = Idle
+abbrev pub phase_after : Option Started → Effect → Phase → Phase
+phase_after s (Starts mark) phase = Scanning
+phase_after s (Sees lsns last) phase = if last then Chasing else phase
+phase_after s Violates phase = Chasing
+phase_after s Conflicts phase = if drains s then Draining else phase
+phase_after s Switches phase = Done
+phase_after s Cancels phase = Idle
 phase_after s other phase = phase
 
 -- how far the transformation has come
 abbrev pub phase : List Entry → Phase
 phase [] = Idle
-phase (e ∷ past) = phase_after (started past) e.reply (phase past)
+phase (e ∷ past) = phase_after (started past) (effect e.reply) (phase past)

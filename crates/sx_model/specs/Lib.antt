@@ -1,4 +1,5 @@
 pub mod Built
+pub mod Effects
 pub mod Leaves
 pub mod Legal
 pub mod Loads

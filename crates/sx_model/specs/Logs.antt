@@ -11,8 +11,7 @@ use Rattle.sx_journal.specs.declared.entry.Event.{Event}
 use Rattle.sx_journal.specs.declared.entry.Event.TheVariants as event
 use Rattle.sx_journal.specs.declared.entry.Request.{Request}
 use Rattle.sx_journal.specs.declared.entry.Request.TheVariants as request
-use Rattle.sx_journal.specs.declared.entry.Reply.{Reply}
-use Rattle.sx_journal.specs.declared.entry.Reply.TheVariants as reply
+use Rattle.sx_model.specs.Effects.{Effect, Nothing, Reads, Begins, Writes, Undoes, Commits, Aborts, Starts, Sees, Fetches, Checks, Conflicts, Violates, Switches, Cancels, effect}
 use Rattle.sx_model.specs.Openings.{Opening, key_in}
 use Rattle.sx_model.specs.Leaves.{txn_of}
 
@@ -32,18 +31,18 @@ unfoldable pub event_record : List Declared → List Rec → ℕ → Event → O
 event_record catalog log txn (event.Client request) = request_record catalog log txn request
 event_record catalog log txn other = None
 
--- the record that an event with this reply makes behind a log, for a transaction; Undo and Check records come with their requests
-unfoldable pub reply_record : List Declared → List Rec → ℕ → Event → Reply → Option Rec
-reply_record catalog log txn asked (reply.Done lsn) = event_record catalog log txn asked
-reply_record catalog log txn asked (reply.Committed lsn) = Some (record { txn = txn; body = body.Commit })
-reply_record catalog log txn asked (reply.Aborted lsn) = Some (record { txn = txn; body = body.Abort })
-reply_record catalog log txn asked (reply.Started lsn) = Some (record { txn = 0; body = body.Mark })
-reply_record catalog log txn asked (reply.Switched lsn) = Some (record { txn = 0; body = body.Switch })
-reply_record catalog log txn asked other = None
+-- the record that an event with this effect makes behind a log, for a transaction; Undo and Check records come with their requests
+abbrev pub effect_record : List Declared → List Rec → ℕ → Event → Effect → Option Rec
+effect_record catalog log txn asked Writes = event_record catalog log txn asked
+effect_record catalog log txn asked Commits = Some (record { txn = txn; body = body.Commit })
+effect_record catalog log txn asked Aborts = Some (record { txn = txn; body = body.Abort })
+effect_record catalog log txn asked (Starts mark) = Some (record { txn = 0; body = body.Mark })
+effect_record catalog log txn asked Switches = Some (record { txn = 0; body = body.Switch })
+effect_record catalog log txn asked other = None
 
 -- the record that an entry makes, from the entries before it and the log that they made
 abbrev pub entry_record : Opening → List Entry → List Rec → Entry → Option Rec
-entry_record o past log e = reply_record o.catalog log (unwrap_or (txn_of past e.actor) 0) e.event e.reply
+entry_record o past log e = effect_record o.catalog log (unwrap_or (txn_of past e.actor) 0) e.event (effect e.reply)
 
 -- the log: the records of the loaded rows, and then one for each reply that makes one
 abbrev pub log_of : Opening → List Entry → List Rec

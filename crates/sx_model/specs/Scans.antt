@@ -12,20 +12,21 @@ use Rattle.sx_journal.specs.declared.entry.Event.{Event}
 use Rattle.sx_journal.specs.declared.entry.Event.TheVariants as event
 use Rattle.sx_journal.specs.declared.entry.Reply.{Reply}
 use Rattle.sx_journal.specs.declared.entry.Reply.TheVariants as reply
+use Rattle.sx_model.specs.Effects.{Effect, Nothing, Reads, Begins, Writes, Undoes, Commits, Aborts, Starts, Sees, Fetches, Checks, Conflicts, Violates, Switches, Cancels, effect}
 use Rattle.sx_sync.specs.declared.Phase.TheVariants.{Scanning}
 use Rattle.sx_model.specs.Openings.{Opening}
 use Rattle.sx_model.specs.Leaves.{Started, started, phase}
 use Rattle.sx_model.specs.Logs.{log_of}
 
-unfoldable pub seen_after : Reply → List ℕ → List ℕ
-seen_after (reply.Started lsn) seen = []
-seen_after (reply.Scanned side lsns last) seen = seen ++ lsns
+abbrev pub seen_after : Effect → List ℕ → List ℕ
+seen_after (Starts mark) seen = []
+seen_after (Sees lsns last) seen = seen ++ lsns
 seen_after other seen = seen
 
 -- the LSNs of the rows that were seen since the last start
 abbrev pub seen : List Entry → List ℕ
 seen [] = []
-seen (e ∷ past) = seen_after e.reply (seen past)
+seen (e ∷ past) = seen_after (effect e.reply) (seen past)
 
 abbrev pub has_lsn : List ℕ → ℕ → Bool
 has_lsn lsns lsn = list_any (nat_eq lsn) lsns

@@ -16,31 +16,31 @@ use Rattle.sx_journal.specs.declared.entry.Request.{Request}
 use Rattle.sx_journal.specs.declared.entry.Request.TheVariants as request
 use Rattle.sx_journal.specs.declared.entry.Reply.{Reply}
 use Rattle.sx_journal.specs.declared.entry.Reply.TheVariants as reply
+use Rattle.sx_model.specs.Effects.{Effect, Nothing, Reads, Begins, Writes, Undoes, Commits, Aborts, Starts, Sees, Fetches, Checks, Conflicts, Violates, Switches, Cancels, effect}
 use Rattle.sx_model.specs.Openings.{Opening}
 use Rattle.sx_model.specs.Leaves.{Living, living, Started, started, is_blocking, phase}
 use Rattle.sx_model.specs.Logs.{log_of, next_lsn}
 
-unfoldable pub position_after : ℕ → Reply → ℕ → ℕ
-position_after end (reply.Started lsn) position = lsn
-position_after end (reply.Fetched from to) position = to
-position_after end (reply.Violated first second) position = end
+abbrev pub position_after : ℕ → Effect → ℕ → ℕ
+position_after end (Starts mark) position = mark
+position_after end (Fetches place) position = place
+position_after end Violates position = end
 position_after end other position = position
 
 -- how far the propagator has read the log
 abbrev pub position : Opening → List Entry → ℕ
 position o [] = 0
-position o (e ∷ past) = position_after (length (log_of o (e ∷ past))) e.reply (position o past)
+position o (e ∷ past) = position_after (length (log_of o (e ∷ past))) (effect e.reply) (position o past)
 
 -- whether a reply takes a lock
-unfoldable pub takes_lock : Reply → Bool
-takes_lock (reply.Done lsn) = true
-takes_lock (reply.Row row) = true
-takes_lock reply.Absent = true
+abbrev pub takes_lock : Effect → Bool
+takes_lock Writes = true
+takes_lock Reads = true
 takes_lock other = false
 
-unfoldable pub is_begun : Reply → Bool
-is_begun (reply.Begun txn) = true
-is_begun other = false
+abbrev pub begins : Effect → Bool
+begins (Begins txn) = true
+begins other = false
 
 -- whether a request names one of these tables
 unfoldable pub request_names : List (List ℕ) → Request → Bool
@@ -59,7 +59,7 @@ abbrev pub has_lock_on : List (List ℕ) → ℕ → List Entry → Bool
 has_lock_on tables client [] = false
 has_lock_on tables client (e ∷ past) =
     if e.actor == client then
-        (if is_begun e.reply then false else (takes_lock e.reply && event_names tables e.event) || has_lock_on tables client past)
+        (if begins (effect e.reply) then false else (takes_lock (effect e.reply) && event_names tables e.event) || has_lock_on tables client past)
     else has_lock_on tables client past
 
 unfoldable pub is_on : List (List ℕ) → Body → Bool
