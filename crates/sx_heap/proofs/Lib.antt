@@ -1,0 +1,4 @@
+pub mod EntryLemmas
+pub mod RowLemmas
+pub mod TurnLemmas
+pub mod WalkLemmas

@@ -1,0 +1,3 @@
+pub mod Entries
+pub mod Relations
+pub mod Walks

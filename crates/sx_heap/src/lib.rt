@@ -1,0 +1,10 @@
+//! Tables of rows in key order, walked in turns, and lists of named tables.
+#![tactic(auto)]
+
+mod seen;
+mod table;
+mod walk;
+
+pub use seen::{Seen, Seens};
+pub use table::Table;
+pub use walk::{Cursor, Walked};
