@@ -3,8 +3,10 @@
 
 mod seen;
 mod table;
+mod tables;
 mod walk;
 
 pub use seen::{Seen, Seens};
 pub use table::Table;
+pub use tables::{NamedTable, Tables};
 pub use walk::{Cursor, Walked};

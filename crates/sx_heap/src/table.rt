@@ -1,6 +1,6 @@
 // A table: its rows by key.
 ghost use Rattle.std.specs.Prelude.{◌≡◌, [], None, length, option_map, take, drop, IfOk, OnOk, OnErr, IsSome};
-ghost use Rattle.sx_heap.specs.Relations.{IsRelation, SetsRow, row_at};
+ghost use Rattle.sx_heap.specs.Relations.{IsRelation, IsRowOf, SetsRow, row_at};
 ghost use Rattle.sx_heap.specs.Walks.{WalksOn};
 ghost use Rattle.sx_heap.specs.Entries.{seen_of, rows_of};
 
@@ -78,6 +78,16 @@ impl Table {
             Some(stamped) => Some((&stamped.row, stamped.lsn)),
             None => None,
         }
+    }
+
+    // Puts a row at its key.
+    fn put(&mut self, key: Key, stamped: Stamped) -> Result<(), AllocError>
+        requires { IsRowOf self.old.schema (seen_of (key, stamped)) }
+        ensures ok { OnOk result (SetsRow self.old self.new key (Some (stamped.row, stamped.lsn))) }
+        ensures err { OnErr result (self.new ≡ self.old) }
+    {
+        self.rows.insert(key, stamped)?;
+        Ok(())
     }
 
     /// Takes out the row of a key.
