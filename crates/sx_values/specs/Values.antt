@@ -30,3 +30,7 @@ values_cmp = slice_cmp value_cmp
 -- the same, as an answer that may be none but never is
 abbrev pub value_partial_cmp : Value → Value → Option Ordering
 value_partial_cmp v w = Some (value_cmp v w)
+
+-- whether two lists of values are one, as that order tells
+abbrev pub values_eq : List Value → List Value → Bool
+values_eq vs ws = is_eq (values_cmp vs ws)

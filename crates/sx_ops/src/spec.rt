@@ -1,0 +1,80 @@
+// Transformations as plain data.
+use crate::Tests;
+use sx_values::{Name, Names, Value};
+
+/// A transformation: its sources, what decides, and its new tables.
+#[derive(Debug, Drop)]
+pub enum Spec {
+    /// The full outer join of two tables on pairs of columns.
+    Join {
+        left: Name,
+        right: Name,
+        on_left: Names,
+        on_right: Names,
+        into: Name,
+    },
+    /// The vertical split: `rest` without the columns `dep`, and `dependent` with `by` and `dep`.
+    Split {
+        table: Name,
+        by: Names,
+        dep: Names,
+        rest: Name,
+        dependent: Name,
+    },
+    /// The horizontal split: `yes` has the rows for which every test is true, `no` the others.
+    Part {
+        table: Name,
+        tests: Tests,
+        yes: Name,
+        no: Name,
+    },
+    /// The union of two tables, with the column `origin` in front.
+    Union {
+        left: Name,
+        right: Name,
+        into: Name,
+    },
+}
+
+/// A comparison of a column with a constant. It isn't true of a Null.
+#[derive(Debug, Drop)]
+pub struct Test {
+    pub column: Name,
+    pub cmp: Cmp,
+    pub value: Value,
+}
+
+/// How a column is compared.
+#[derive(Clone, Copy, Debug, PartialEq, Eq)]
+pub enum Cmp {
+    Eq,
+    Ne,
+    Lt,
+    Le,
+    Gt,
+    Ge,
+}
+
+/// Why a transformation doesn't fit a catalog.
+#[derive(Debug, Drop)]
+pub enum SpecFault {
+    Memory,
+    /// The source isn't declared.
+    NoTable { name: Name },
+    /// Both sources are this table.
+    SameTable { name: Name },
+    /// The source has no such column.
+    NoColumn { name: Name },
+    /// The column stands twice.
+    Repeated { name: Name },
+    /// The kinds of the pair or the comparison at this place from 1 differ; at 0, the schemas do.
+    Types { place: u64 },
+    /// The column takes Null and may not.
+    Nullable { name: Name },
+    /// The column is part of the key and may not be.
+    KeyMissing { name: Name },
+    /// The name of a new table or column is taken.
+    NameTaken { name: Name },
+    /// The table lacks the index that the transformation needs.
+    NoIndex { table: Name },
+}
