@@ -1,5 +1,6 @@
 // A table: its rows by key.
 ghost use Rattle.std.specs.Prelude.{◌≡◌, [], None, length, option_map, take, drop, IfOk, OnOk, OnErr, IsSome};
+ghost use Rattle.sx_values.specs.Layouts.{Admits, key_of};
 ghost use Rattle.sx_heap.specs.Relations.{IsRelation, IsRowOf, SetsRow, row_at};
 ghost use Rattle.sx_heap.specs.Walks.{WalksOn};
 ghost use Rattle.sx_heap.specs.Entries.{seen_of, rows_of};
@@ -80,14 +81,26 @@ impl Table {
         }
     }
 
-    // Puts a row at its key.
-    fn put(&mut self, key: Key, stamped: Stamped) -> Result<(), AllocError>
-        requires { IsRowOf self.old.schema (seen_of (key, stamped)) }
-        ensures ok { OnOk result (SetsRow self.old self.new key (Some (stamped.row, stamped.lsn))) }
+    /// Puts in a row whose key is absent. Want of memory changes nothing.
+    pub fn insert(&mut self, row: Row, lsn: u64) -> Result<(), AllocError>
+        requires admitted { Admits self.old.schema row }
+        requires absent { row_at self.old.rows (key_of self.old.schema row) ≡ None }
+        ensures ok { OnOk result (SetsRow self.old self.new (key_of self.old.schema row) (Some (row, lsn))) }
         ensures err { OnErr result (self.new ≡ self.old) }
     {
-        self.rows.insert(key, stamped)?;
-        Ok(())
+        let key = self.schema.key_of(self.alloc, &row)?;
+        self.put(key, Stamped { row, lsn })
+    }
+
+    /// Puts a row in the place of that of its key. Want of memory changes nothing.
+    pub fn replace(&mut self, row: Row, lsn: u64) -> Result<(), AllocError>
+        requires admitted { Admits self.old.schema row }
+        requires there { IsSome (row_at self.old.rows (key_of self.old.schema row)) }
+        ensures ok { OnOk result (SetsRow self.old self.new (key_of self.old.schema row) (Some (row, lsn))) }
+        ensures err { OnErr result (self.new ≡ self.old) }
+    {
+        let key = self.schema.key_of(self.alloc, &row)?;
+        self.put(key, Stamped { row, lsn })
     }
 
     /// Takes out the row of a key.
@@ -109,6 +122,16 @@ impl Table {
         let over = ahead.next().is_none();
         let next = cursor.moved_past(alloc, seen.as_slice())?;
         Ok(Walked { seen, next, over })
+    }
+
+    // Puts a row at its key.
+    fn put(&mut self, key: Key, stamped: Stamped) -> Result<(), AllocError>
+        requires { IsRowOf self.old.schema (seen_of (key, stamped)) }
+        ensures ok { OnOk result (SetsRow self.old self.new key (Some (stamped.row, stamped.lsn))) }
+        ensures err { OnErr result (self.new ≡ self.old) }
+    {
+        self.rows.insert(key, stamped)?;
+        Ok(())
     }
 }
 
