@@ -93,3 +93,12 @@ names_of_with_table (t ∷ tables) name table = by (same_name t.name name) (name
 -- with another table under a name the names still differ
 pub AreNamedApart-with_table : (tables : List NamedTable) (name : List ℕ) (table : Relation) → AreNamedApart tables → AreNamedApart (with_table tables name table)
 AreNamedApart-with_table tables name table apart = subst (IsDistinct same_name) (sym (names_of_with_table tables name table)) apart
+
+-- to write the table that is there changes nothing
+pub with_table_same : (tables : List NamedTable) (name : List ℕ) (table : Relation) → table_named tables name ≡ Some table → with_table tables name table ≡ tables
+with_table_same [] name table e = refl
+with_table_same (t ∷ tables) name table e = by (same_name t.name name) e (with_table_same tables name table)
+  where
+    by : (b : Bool) → cond b (Some t.table) (table_named tables name) ≡ Some table → (table_named tables name ≡ Some table → with_table tables name table ≡ tables) → cond b (record { name = t.name; table = table } ∷ tables) (t ∷ with_table tables name table) ≡ t ∷ tables
+    by true h rest = ap (λ (o : Option Relation). elim o [ None ↦ t ∷ tables | Some w ↦ record { name = t.name; table = w } ∷ tables ]) (sym h)
+    by false h rest = ap (λ us. t ∷ us) (rest h)

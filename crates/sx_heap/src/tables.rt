@@ -1,15 +1,15 @@
 // Tables by name.
-ghost use Rattle.std.specs.Prelude.{◌≡◌, [], ◌∷◌, ◌++◌, ◌<◌, None, length, OnOk, OnErr, IfSome, option_map};
+ghost use Rattle.std.specs.Prelude.{◌≡◌, [], ◌∷◌, ◌++◌, ◌<◌, None, length, OnOk, OnErr, IfSome, IsSome, IsSomeAnd, option_map};
 ghost use Rattle.sx_values.specs.Names.{same_name};
 ghost use Rattle.std.specs.Option.{option_copied, option_copied_mut};
 ghost use Rattle.sx_lists.specs.Places.{at_place};
-ghost use Rattle.sx_heap.specs.NamedTables.{AreNamedApart, table_named, index_named};
+ghost use Rattle.sx_heap.specs.NamedTables.{AreNamedApart, PutsRowIn, RemovesRowIn, LacksKeyOf, HasKeyOf, table_named, index_named, named_pair};
+ghost use Rattle.sx_heap.specs.Relations.{row_at};
 
 use crate::Table;
 use std::alloc::{AllocError, Global};
 use std::marker::Model;
-use sx_lists::Same;
-use sx_values::Name;
+use sx_values::{Key, Name, Row};
 
 /// A table and its name.
 #[derive(Drop)]
@@ -84,6 +84,56 @@ impl Tables {
         let index = index_of(&self.tables, name)?;
         Some(&mut self.tables[index].table)
     }
+
+    /// The name and the table at a place, or None where there is no such place.
+    pub fn at(&self, place: u64) -> Option<(&Name, &Table)>
+        ensures at { option_map named_pair result ≡ at_place self.now place }
+        ensures apart { AreNamedApart self.now }
+    {
+        match named_at(&self.tables, place) {
+            Some(named) => Some((&named.name, &named.table)),
+            None => None,
+        }
+    }
+
+    /// Puts in a row whose key the table of a name lacks. Want of memory changes nothing.
+    #[tactic(auto, using(crate::proofs::NameLemmas::with_table_same))]
+    pub fn insert(&mut self, name: &Name, row: Row, lsn: u64) -> Result<(), AllocError>
+        requires { IsSomeAnd (table_named self.old name.now) (LacksKeyOf row) }
+        ensures ok { OnOk result (PutsRowIn self.old self.new name.now row lsn) }
+        ensures err { OnErr result (self.new ≡ self.old) }
+    {
+        match self.find_mut(name) {
+            Some(table) => table.insert(row, lsn),
+            None => unreachable!(),
+        }
+    }
+
+    /// Puts a row in the place of that of its key in the table of a name. Want of memory changes nothing.
+    #[tactic(auto, using(crate::proofs::NameLemmas::with_table_same))]
+    pub fn replace(&mut self, name: &Name, row: Row, lsn: u64) -> Result<(), AllocError>
+        requires { IsSomeAnd (table_named self.old name.now) (HasKeyOf row) }
+        ensures ok { OnOk result (PutsRowIn self.old self.new name.now row lsn) }
+        ensures err { OnErr result (self.new ≡ self.old) }
+    {
+        match self.find_mut(name) {
+            Some(table) => table.replace(row, lsn),
+            None => unreachable!(),
+        }
+    }
+
+    /// Takes the row of a key out of the table of a name. Want of memory changes nothing.
+    #[tactic(auto, using(crate::proofs::NameLemmas::with_table_same))]
+    pub fn remove(&mut self, name: &Name, key: &Key) -> Result<(), AllocError>
+        requires { IsSomeAnd (table_named self.old name.now) (λ table. IsSome (row_at table.rows key.now)) }
+        ensures ok { OnOk result (RemovesRowIn self.old self.new name.now key.now) }
+        ensures err { OnErr result (self.new ≡ self.old) }
+    {
+        match self.find_mut(name) {
+            Some(table) => table.remove(key),
+            None => unreachable!(),
+        }
+    }
 }
 
 impl NamedTable {
@@ -101,4 +151,14 @@ fn index_of(tables: &[NamedTable], name: &Name) -> Option<usize>
     ensures within { IfSome result (λ index. index < length tables.now) }
 {
     tables.iter().position(|named| named.is_named(name))
+}
+
+// The table at a place among these.
+fn named_at(tables: &[NamedTable], place: u64) -> Option<&NamedTable>
+    ensures { option_copied result ≡ at_place tables.now place }
+{
+    if place == 0 {
+        return None;
+    }
+    tables.get((place - 1) as usize)
 }
