@@ -178,7 +178,9 @@ impl Sink for MemorySink {
         }
         let most = self.piece.min(self.room) as usize;
         let count = most.min(bytes.len());
-        self.bytes.extend_from_slice(bytes.split_at(count).0).unwrap();
+        self.bytes
+            .extend_from_slice(bytes.split_at(count).0)
+            .unwrap();
         self.room -= count as u64;
         Ok(count)
     }
