@@ -5,6 +5,7 @@ mod memory;
 mod outside;
 mod steady;
 mod streams;
+mod unread;
 mod whole;
 
 pub use memory::{MemorySink, MemorySource};

@@ -5,7 +5,7 @@ ghost use Rattle.std.specs.Io.KnownBytes.{ReadConsumes, WriteAppends};
 ghost use Rattle.sx_io.specs.Causes.{HasCause};
 ghost use Rattle.sx_io.specs.Memory.{Calls, Reading, Writing, fails_next, after_call, Reads, Writes};
 
-use crate::steady::Unread;
+use crate::unread::Unread;
 use crate::{Bytes, Failed, Sink, Source};
 use std::alloc::{AllocError, Global};
 use std::marker::Model;

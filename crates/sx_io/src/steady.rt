@@ -1,46 +1,12 @@
 // A source and a sink that never fail.
-ghost use Rattle.std.specs.Prelude.{◌≡◌, Some, None, min, length, take, drop};
+ghost use Rattle.std.specs.Prelude.{◌≡◌, ◌<◌, Some, None, Ok, min, length, IfOk};
+ghost use Rattle.std.specs.Io.{ReadsAtMost, WritesAtMost};
+ghost use Rattle.std.specs.Io.KnownBytes.{ReadConsumes, WriteAppends};
+ghost use Rattle.sx_io.specs.Causes.{HasCause};
 
+use crate::unread::Unread;
 use crate::{Bytes, Failed, Sink, Source};
 use std::marker::Model;
-
-// Bytes that are given out from their front.
-#[derive(Drop)]
-pub(crate) struct Unread {
-    bytes: Bytes,
-    given: usize,
-}
-
-impl Model for Unread {
-    ghost use Rattle.std.specs.Prelude.{ℕ, List, ◌≤◌, drop, length};
-
-    ghost Value = { List ℕ };
-
-    ghost view = { λ u. drop u.given u.bytes };
-
-    ghost invariant = { λ u. u.given ≤ length u.bytes };
-}
-
-impl Unread {
-    pub(crate) fn new(bytes: Bytes) -> Self
-        ensures { result ≡ bytes }
-    {
-        Unread { bytes, given: 0 }
-    }
-
-    // Puts bytes at the front of the buffer, as many as there are and fit and `most` allows.
-    pub(crate) fn give(&mut self, buf: &mut [u8], most: usize) -> usize
-        ensures count { result ≡ min most (min (length buf.old) (length self.old)) }
-        ensures front { take result buf.new ≡ take result self.old }
-        ensures rest { self.new ≡ drop result self.old }
-    {
-        let left = self.bytes.as_slice().split_at(self.given).1;
-        let count = most.min(buf.len().min(left.len()));
-        buf[..count].copy_from_slice(left.split_at(count).0);
-        self.given += count;
-        count
-    }
-}
 
 /// A source in memory that never fails, and gives as much as is asked for.
 #[derive(Drop)]
@@ -72,7 +38,13 @@ impl Source for SteadySource {
 
     ghost faults = { λ _. 0 };
 
-    fn read(&mut self, buf: &mut [u8]) -> Result<usize, Failed> {
+    fn read(&mut self, buf: &mut [u8]) -> Result<usize, Failed>
+        requires { 0 < length buf.old }
+        ensures exact { result ≡ Ok (min (length buf.old) (length self.old)) }
+        ensures bound { ReadsAtMost result buf.new }
+        ensures bytes { ReadConsumes (Some self.old) (Some self.new) result buf.new }
+        ensures cause { HasCause 0 0 result }
+    {
         let most = buf.len();
         Ok(self.unread.give(buf, most))
     }
@@ -91,7 +63,14 @@ impl Sink for SteadySink {
 
     ghost faults = { λ _. 0 };
 
-    fn write(&mut self, bytes: &[u8]) -> Result<usize, Failed> {
+    fn write(&mut self, bytes: &[u8]) -> Result<usize, Failed>
+        requires { 0 < length bytes.now }
+        ensures exact { result ≡ Ok (length bytes.now) }
+        ensures progress { IfOk result (λ count. 0 < count) }
+        ensures bound { WritesAtMost result bytes.now }
+        ensures bytes { WriteAppends None None result bytes.now }
+        ensures cause { HasCause 0 0 result }
+    {
         Ok(bytes.len())
     }
 

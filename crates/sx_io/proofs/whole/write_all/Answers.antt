@@ -1,6 +1,5 @@
-use Rattle.std.proofs.Common.{length, take, subst, sym, arith, rules}
+use Rattle.std.proofs.Common.{arith}
 use Rattle.std.proofs.Math.Seq.{take-add}
-use Rattle.std.specs.Io.KnownBytes.{Appends}
 use Rattle.std.proofs.KnownBytes.{Appends-trans}
 use Rattle.sx_io.proofs.whole.write_all.Goals as goal
 
