@@ -1,0 +1,3 @@
+pub mod LsnLaws
+pub mod ScanLaws
+pub mod StateLaws
