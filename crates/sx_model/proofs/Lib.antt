@@ -3,4 +3,5 @@ pub mod LegalLaws
 pub mod LsnLaws
 pub mod Outcomes
 pub mod ScanLaws
+pub mod ScriptLaws
 pub mod StateLaws
