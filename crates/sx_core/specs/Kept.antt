@@ -51,7 +51,7 @@ pub record ClientsMeet (past : List Entry) (alive : Option ℕ) (count : ℕ) : 
 -- a transformation that started: a horizontal split under blocking commit that fits, with nothing in the log behind its Mark
 pub record IsUnderWay (o : Opening) (past : List Entry) (log : List Rec) (spec : Option Spec) (s : Started) : Type 0 where
   pub is_started : started past ≡ Some s
-  pub spec : spec ≡ Some s.spec
+  pub is_spec : spec ≡ Some s.spec
   pub blocking : s.strategy ≡ Blocking
   pub shaped : IsShaped s.spec
   pub fits : spec_fault o.catalog s.spec ≡ None

@@ -1,7 +1,2 @@
-//! The machine: it answers each event by the journal, and keeps the tables and the log that follow from it.
+//! The machine.
 #![tactic(auto)]
-
-mod machine;
-
-pub use machine::{Core, CoreFault};
-pub use sx_log::{Load, Loads};
