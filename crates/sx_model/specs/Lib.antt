@@ -2,6 +2,7 @@ pub mod Built
 pub mod Effects
 pub mod Leaves
 pub mod Legal
+pub mod LoadRecords
 pub mod Loads
 pub mod Logs
 pub mod Openings
