@@ -1,3 +1,4 @@
 pub mod KeptLemmas
+pub mod ScanLemmas
 pub mod TableLemmas
 pub mod WriteLemmas

@@ -21,6 +21,10 @@ use Rattle.sx_heap.specs.declared.tables.NamedTable.{NamedTable}
 use Rattle.sx_heap.specs.Relations.{Relation, IsRelation, IsRowOf, row_at, row_keys, same_key}
 use Rattle.sx_heap.specs.NamedTables.{table_named}
 use Rattle.sx_heap.proofs.WalkLemmas.{values_total}
+use Rattle.sx_ops.specs.declared.spec.Spec.{Spec}
+use Rattle.sx_ops.specs.declared.spec.Spec.TheVariants.{Join, Split, Part, Union}
+use Rattle.sx_ops.specs.Checks.{IsShaped, spec_fault, part_fault}
+use Rattle.sx_ops.specs.Operators.{sources_of}
 use Rattle.sx_model.specs.Tables.{AreRows, row_of_key}
 use Rattle.sx_core.specs.Kept.{TablesMeet}
 
@@ -140,3 +144,23 @@ rows_meet log name source is meets =
       in_order = subst (IsStrictlySortedBy values_cmp) (keys_of_rows source.schema source.rows each) is.sorted;
       same = λ key. row_of_key-rows source.schema source.rows key each ∙ ap (option_map (λ (p : Stored). p.0)) (meets key)
     }
+
+-- the one source of a transformation, with its table
+pub record HasSource (catalog : List Declared) (log : List Rec) (tables : List NamedTable) (spec : Spec) : Type 0 where
+  pub name : List ℕ
+  pub one : sources_of spec ≡ name ∷ []
+  pub declared : Declared
+  pub is_declared : declared_as catalog name ≡ Some declared
+  pub meets : MeetsNamed log declared tables name
+
+-- a transformation that fits has its source among the tables
+pub has_source : (catalog : List Declared) (log : List Rec) (tables : List NamedTable) (spec : Spec)
+    → TablesMeet catalog log tables → IsShaped spec → spec_fault catalog spec ≡ None → HasSource catalog log tables spec
+has_source catalog log tables (Part table tests passing failing) meets shaped fits = by (declared_as catalog table) refl fits
+  where
+    by : (answer : Option Declared) → declared_as catalog table ≡ answer → part_fault catalog answer table tests passing failing ≡ None → HasSource catalog log tables (Part table tests passing failing)
+    by None none fault = absurd (cc)
+    by (Some d) is fault = record { name = table; one = refl; declared = d; is_declared = is; meets = meets_named catalog log tables table d meets is }
+has_source catalog log tables (Join left right on_left on_right into) meets shaped fits = absurd shaped
+has_source catalog log tables (Split table dep_by dep rest dependent) meets shaped fits = absurd shaped
+has_source catalog log tables (Union left right into) meets shaped fits = absurd shaped
