@@ -1,5 +1,5 @@
 // A table: its rows by key.
-ghost use Rattle.std.specs.Prelude.{◌≡◌, [], None, length, option_map, take, drop, IfOk, OnOk, OnErr, IsSome};
+ghost use Rattle.std.specs.Prelude.{◌≡◌, ◌==◌, [], None, length, option_map, take, drop, IfOk, OnOk, OnErr, IsSome};
 ghost use Rattle.sx_values.specs.Layouts.{Admits, key_of};
 ghost use Rattle.sx_heap.specs.Relations.{IsRelation, IsRowOf, SetsRow, row_at};
 ghost use Rattle.sx_heap.specs.Walks.{WalksOn};
@@ -68,6 +68,13 @@ impl Table {
         ensures relation { IsRelation self.now }
     {
         self.rows.len() as u64
+    }
+
+    /// Whether there is no row.
+    pub fn is_empty(&self) -> bool
+        ensures { result ≡ (length self.now.rows == 0) }
+    {
+        self.rows.is_empty()
     }
 
     /// The row of a key and its LSN, or None where the key is absent.
