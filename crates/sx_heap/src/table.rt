@@ -107,10 +107,11 @@ impl Table {
         ensures err { OnErr result (self.new ≡ self.old) }
     {
         let key = self.schema.key_of(self.alloc, &row)?;
-        self.put(key, Stamped { row, lsn })
+        let newer = Stamped { row, lsn };
+        self.put(key, newer)
     }
 
-    /// Takes out the row of a key.
+    /// Takes out the row of a key. Want of memory changes nothing.
     pub fn remove(&mut self, key: &Key) -> Result<(), AllocError>
         requires { IsSome (row_at self.old.rows key.now) }
         ensures ok { OnOk result (SetsRow self.old self.new key.now None) }
@@ -122,7 +123,8 @@ impl Table {
 
     /// The next `n` rows behind the cursor, in key order, or all of them where they are fewer.
     pub fn walk(&self, alloc: Global, cursor: Cursor, n: u64) -> Result<Walked, AllocError>
-        ensures { IfOk result (WalksOn self.now.rows cursor n) }
+        ensures walked { IfOk result (WalksOn self.now.rows cursor n) }
+        ensures relation { IsRelation self.now }
     {
         let mut ahead = self.rows.range((cursor.bound(), Bound::Unbounded));
         let seen = next_rows(alloc, &mut ahead, n)?;

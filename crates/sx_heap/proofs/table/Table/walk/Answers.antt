@@ -10,8 +10,8 @@ use Rattle.sx_heap.proofs.TurnLemmas.{none_left}
 use Rattle.sx_heap.proofs.WalkLemmas.{walks_on}
 use Rattle.sx_heap.proofs.table.Table.walk.Goals as goal
 
-pub returns : goal.returns
-returns c =
+pub returns-clause-walked : goal.returns-clause-walked
+returns-clause-walked c =
     let entries = c.self.inside.rows.entries in
     let n = c.args.n in
     let behind =
