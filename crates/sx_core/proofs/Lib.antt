@@ -1,4 +1,5 @@
 pub mod KeptLemmas
+pub mod MeetLemmas
 pub mod ScanLemmas
 pub mod TableLemmas
 pub mod TurnLemmas

@@ -1,3 +1,6 @@
+pub mod Changes
 pub mod Kept
 pub mod Machines
+pub mod Meets
 pub mod Views
+pub mod Writes
