@@ -1,2 +1,5 @@
 pub mod KeptLemmas
+pub mod ScanLemmas
+pub mod TableLemmas
+pub mod TurnLemmas
 pub mod WriteLemmas

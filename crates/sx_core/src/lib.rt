@@ -1,2 +1,8 @@
-//! The machine.
+//! The machine: it answers each event by the journal, and keeps the tables and the log that follow from it.
 #![tactic(auto)]
+
+mod machine;
+mod turns;
+
+pub use machine::{Core, CoreFault};
+pub use sx_log::{Load, Loads};

@@ -1,12 +1,11 @@
 -- The rows of a map's entries: at a key, in order, and between bounds.
-use Rattle.std.proofs.Common.{◌≡◌, ◌↔◌, IsTrue, ◌∷◌, ◌++◌, [], ◌+◌, ◌≤◌, ◌&&◌, ℕ, zero, suc, List, Bool, true, false, Option, Some, None, option_map, refl, sym, ap, ◌∙◌, subst, cond, map, take, drop, length, arith, add-one, All}
+use Rattle.std.proofs.Common.{◌≡◌, ◌↔◌, IsTrue, ◌∷◌, ◌++◌, [], ◌+◌, ◌&&◌, ℕ, zero, suc, List, Bool, true, false, Option, Some, None, option_map, refl, sym, ap, ◌∙◌, subst, cond, take, drop, All}
 use Rattle.std.specs.Map.{lookup, keys_of}
 use Rattle.std.specs.BTreeMap.{is_at, insert_entry}
 use Rattle.std.specs.BTreeMap.Range.{entries_between}
 use Rattle.std.specs.Ordering.{match_ordering}
 use Rattle.std.specs.declared.cmp.Ordering.{Ordering}
 use Rattle.std.specs.declared.cmp.Ordering.TheVariants.{Less, Equal, Greater}
-use Rattle.std.specs.declared.ops.Bound.{Bound}
 use Rattle.std.specs.declared.ops.Bound.TheVariants.{Unbounded}
 use Rattle.std.specs.List.Sorted.{IsStrictlySortedBy}
 use Rattle.std.proofs.lemmas.List.Elements.{All-nil, All-cons, All-head, All-tail}
@@ -100,5 +99,6 @@ rows_of-none (e ∷ es) over h = (λ t. absurd (filled (h.0 t)), λ none. absurd
   where
     filled : (e ∷ es) ≡ [] → ⊥
     filled k = cc
+
     listed : (seen_of e ∷ rows_of es) ≡ [] → ⊥
     listed k = cc

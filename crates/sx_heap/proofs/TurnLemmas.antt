@@ -1,5 +1,5 @@
 -- The steps of a loop that takes entries one by one.
-use Rattle.std.proofs.Common.{◌↔◌, Bool, true, false, not, IsTrue, Option, Some, None, is_some, true≢false, ◌≡◌, ◌∷◌, ◌++◌, [], ◌+◌, ◌≤◌, ◌-◌, ℕ, zero, suc, List, refl, sym, ap, ◌∙◌, take, drop, length, arith, add-one}
+use Rattle.std.proofs.Common.{◌↔◌, Bool, true, false, not, IsTrue, Option, Some, None, is_some, true≢false, ◌≡◌, ◌∷◌, ◌++◌, [], ◌+◌, ◌≤◌, ℕ, zero, suc, List, refl, sym, ap, ◌∙◌, take, drop, length, arith, add-one}
 use Rattle.std.specs.Map.Iter.{TakesFirst}
 use Rattle.std.proofs.lemmas.Bool.{false≢true}
 use Rattle.std.proofs.lemmas.List.{length-drop, take_all, drop_all}

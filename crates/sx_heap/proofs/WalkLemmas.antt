@@ -1,5 +1,6 @@
 -- A turn of a walk leaves ahead what it did not hand out.
-use Rattle.std.proofs.Common.{◌≡◌, ◌↔◌, IsTrue, ◌∷◌, [], ◌&&◌, ◌-◌, ◌==◌, ◌≤◌, ℕ, zero, suc, List, Bool, true, false, not, Option, Some, None, length, refl, sym, ap, ◌∙◌, subst, cond, take, drop, true≢false, filter, arith, option_map}
+use Rattle.std.proofs.Common.{◌≡◌, ◌++◌, ◌↔◌, IsTrue, ◌∷◌, [], ◌-◌, ℕ, zero, suc, List, Bool, true, false, Option, Some, None, length, refl, sym, ap, ◌∙◌, cond, take, drop, true≢false, arith, option_map}
+use Rattle.std.proofs.lemmas.List.{take-append-drop}
 use Rattle.std.specs.Ordering.{is_lt, ordering_reverse}
 use Rattle.std.specs.declared.cmp.Ordering.{Ordering}
 use Rattle.std.specs.declared.cmp.Ordering.TheVariants.{Less, Equal, Greater}
@@ -142,5 +143,15 @@ walks_on rows cursor n walked left sorted seen next ahead over =
     record {
       hands_out = seen;
       ends_at = next;
-      is_over = (λ t. behind ∙ over.0 t, λ none. over.1 (sym behind ∙ none))
+      is_over = (λ t. behind ∙ over.0 t, λ none. over.1 (sym behind ∙ none));
     }
+
+-- behind the place where a turn ends stand the rows behind its cursor but for those that it handed out
+pub rows_after-next : (rows : List Seen) (cursor : Option (List Value)) (n : ℕ) (walked : Walked) → IsStrictlySortedBy values_cmp (row_keys rows) → WalksOn rows cursor n walked → rows_after walked.next rows ≡ drop n (rows_after cursor rows)
+rows_after-next rows cursor n walked sorted walks =
+    ap (λ k. rows_after k rows) (walks.ends_at ∙ ap (last_key cursor) walks.hands_out) ∙ rows_after-turn cursor n rows sorted
+
+-- what a turn hands out, and then the rows behind its end, are the rows behind its cursor
+pub rows_after-walked : (rows : List Seen) (cursor : Option (List Value)) (n : ℕ) (walked : Walked) → IsStrictlySortedBy values_cmp (row_keys rows) → WalksOn rows cursor n walked → walked.seen ++ rows_after walked.next rows ≡ rows_after cursor rows
+rows_after-walked rows cursor n walked sorted walks =
+    rw (walks.hands_out, rows_after-next rows cursor n walked sorted walks) (take-append-drop n (rows_after cursor rows))

@@ -1,5 +1,5 @@
 -- Tables by name.
-use Rattle.std.specs.Prelude.{◌≡◌, ◌==◌, ℕ, List, [], ◌∷◌, map, Option, Some, None, position, IsSome, IsSomeAnd, if◌then◌else◌}
+use Rattle.std.specs.Prelude.{◌≡◌, ℕ, List, [], ◌∷◌, map, Option, Some, None, position, IsSome, IsSomeAnd, if◌then◌else◌}
 use denote.Ref.{Bor}
 use Rattle.std.specs.List.{IsDistinct}
 use Rattle.sx_values.specs.Names.{same_name}

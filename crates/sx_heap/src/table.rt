@@ -1,5 +1,5 @@
 // A table: its rows by key.
-ghost use Rattle.std.specs.Prelude.{◌≡◌, [], None, length, option_map, take, drop, IfOk, OnOk, OnErr, IsSome};
+ghost use Rattle.std.specs.Prelude.{◌≡◌, ◌==◌, [], None, length, option_map, take, drop, IfOk, OnOk, OnErr, IsSome};
 ghost use Rattle.sx_values.specs.Layouts.{Admits, key_of};
 ghost use Rattle.sx_heap.specs.Relations.{IsRelation, IsRowOf, SetsRow, row_at};
 ghost use Rattle.sx_heap.specs.Walks.{WalksOn};
@@ -70,6 +70,13 @@ impl Table {
         self.rows.len() as u64
     }
 
+    /// Whether there is no row.
+    pub fn is_empty(&self) -> bool
+        ensures { result ≡ (length self.now.rows == 0) }
+    {
+        self.rows.is_empty()
+    }
+
     /// The row of a key and its LSN, or None where the key is absent.
     pub fn get(&self, key: &Key) -> Option<(&Row, u64)>
         ensures found { option_map (λ found. (found.0.now, found.1)) result ≡ row_at self.now.rows key.now }
@@ -100,10 +107,11 @@ impl Table {
         ensures err { OnErr result (self.new ≡ self.old) }
     {
         let key = self.schema.key_of(self.alloc, &row)?;
-        self.put(key, Stamped { row, lsn })
+        let newer = Stamped { row, lsn };
+        self.put(key, newer)
     }
 
-    /// Takes out the row of a key.
+    /// Takes out the row of a key. Want of memory changes nothing.
     pub fn remove(&mut self, key: &Key) -> Result<(), AllocError>
         requires { IsSome (row_at self.old.rows key.now) }
         ensures ok { OnOk result (SetsRow self.old self.new key.now None) }
@@ -115,7 +123,8 @@ impl Table {
 
     /// The next `n` rows behind the cursor, in key order, or all of them where they are fewer.
     pub fn walk(&self, alloc: Global, cursor: Cursor, n: u64) -> Result<Walked, AllocError>
-        ensures { IfOk result (WalksOn self.now.rows cursor n) }
+        ensures walked { IfOk result (WalksOn self.now.rows cursor n) }
+        ensures relation { IsRelation self.now }
     {
         let mut ahead = self.rows.range((cursor.bound(), Bound::Unbounded));
         let seen = next_rows(alloc, &mut ahead, n)?;

@@ -1,5 +1,5 @@
 // Tables by name.
-ghost use Rattle.std.specs.Prelude.{◌≡◌, [], ◌∷◌, ◌++◌, ◌<◌, None, length, OnOk, OnErr, IfSome, IsSome, IsSomeAnd, option_map};
+ghost use Rattle.std.specs.Prelude.{◌≡◌, ◌==◌, [], ◌∷◌, ◌++◌, ◌<◌, None, length, OnOk, OnErr, IfSome, IsSome, IsSomeAnd, option_map};
 ghost use Rattle.sx_values.specs.Names.{same_name};
 ghost use Rattle.std.specs.Option.{option_copied, option_copied_mut};
 ghost use Rattle.sx_lists.specs.Places.{at_place};
@@ -55,6 +55,13 @@ impl Tables {
         ensures apart { AreNamedApart self.now }
     {
         self.tables.len() as u64
+    }
+
+    /// Whether there is no table.
+    pub fn is_empty(&self) -> bool
+        ensures { result ≡ (length self.now == 0) }
+    {
+        self.tables.is_empty()
     }
 
     /// Puts a table at the end, under a name that isn't there. Want of memory changes nothing.

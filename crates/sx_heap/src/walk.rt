@@ -2,7 +2,6 @@
 ghost use Rattle.std.specs.Prelude.{◌≡◌, None, IfOk};
 ghost use Rattle.std.specs.Range.Bound.{bound_map};
 
-
 use crate::{Seen, Seens};
 use std::alloc::{AllocError, Global};
 use std::marker::Model;

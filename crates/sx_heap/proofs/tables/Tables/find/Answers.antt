@@ -1,6 +1,5 @@
-use Rattle.std.proofs.Common.{sym, ◌∙◌, ap, None, Some}
-use Rattle.std.specs.Option.{option_copied}
-use Rattle.sx_heap.specs.NamedTables.{table_named, index_named}
+use Rattle.std.proofs.Common.{sym, ◌∙◌, ap}
+use Rattle.sx_heap.specs.NamedTables.{index_named}
 use Rattle.sx_heap.proofs.NameLemmas.{table_named-absent, table_named-first, is_first_named}
 use Rattle.sx_heap.proofs.tables.Tables.find.Goals as goal
 

@@ -1,5 +1,5 @@
-use Rattle.std.proofs.Common.{◌≡◌, sym, ◌∙◌, ap, subst, inl, refl, None, Some, ◌⊎◌}
-use Rattle.sx_heap.specs.NamedTables.{AreNamedApart, with_table, index_named}
+use Rattle.std.proofs.Common.{◌≡◌, sym, ◌∙◌, ap, subst, inl, refl, ◌⊎◌}
+use Rattle.sx_heap.specs.NamedTables.{AreNamedApart, index_named}
 use Rattle.sx_heap.proofs.NameLemmas.{table_named-absent, table_named-first, is_first_named, with_table-first, AreNamedApart-with_table}
 use Rattle.sx_heap.proofs.tables.Tables.find_mut.Goals as goal
 

@@ -1,5 +1,3 @@
-use Rattle.std.proofs.Common.{◌≡◌, ap, ◌∙◌, None}
-use Rattle.sx_heap.specs.NamedTables.{table_named}
 use Rattle.sx_heap.proofs.NameLemmas.{AreNamedApart-push}
 use Rattle.sx_heap.proofs.tables.Tables.push.Goals as goal
 
