@@ -1,8 +1,11 @@
 //! The machine: it answers each event by the journal, and keeps the tables and the log that follow from it.
 #![tactic(auto)]
 
+mod client;
 mod found;
 mod machine;
+mod propagator;
+mod rows;
 mod turns;
 
 pub use machine::{Core, CoreFault};

@@ -53,14 +53,15 @@ impl Core {
         let found = self.row_found(&table, &row)?;
         match found {
             Found::Refused(reply) => self.note(actor, Request::Insert { table, row }, reply),
-            Found::At { before: Some(_), .. } => {
-                self.note(actor, Request::Insert { table, row }, Reply::Exists)
-            }
-            Found::At { key, before: None } => {
-                let (name, after) = (table.copy(self.alloc)?, row.copy(self.alloc)?);
-                let request = Request::Insert { table, row };
-                self.write(actor, txn, request, name, key, None, Some(after))
-            }
+            Found::At { key, before } => match before {
+                Some(_) => self.note(actor, Request::Insert { table, row }, Reply::Exists),
+                None => {
+                    let name = table.copy(self.alloc)?;
+                    let after = row.copy(self.alloc)?;
+                    let request = Request::Insert { table, row };
+                    self.write(actor, txn, request, name, key, None, Some(after))
+                }
+            },
         }
     }
 
@@ -84,17 +85,15 @@ impl Core {
         let found = self.row_found(&table, &row)?;
         match found {
             Found::Refused(reply) => self.note(actor, Request::Update { table, row }, reply),
-            Found::At { before: None, .. } => {
-                self.note(actor, Request::Update { table, row }, Reply::Missing)
-            }
-            Found::At {
-                key,
-                before: Some(before),
-            } => {
-                let (name, after) = (table.copy(self.alloc)?, row.copy(self.alloc)?);
-                let request = Request::Update { table, row };
-                self.write(actor, txn, request, name, key, Some(before), Some(after))
-            }
+            Found::At { key, before } => match before {
+                None => self.note(actor, Request::Update { table, row }, Reply::Missing),
+                Some(before) => {
+                    let name = table.copy(self.alloc)?;
+                    let after = row.copy(self.alloc)?;
+                    let request = Request::Update { table, row };
+                    self.write(actor, txn, request, name, key, Some(before), Some(after))
+                }
+            },
         }
     }
 
@@ -118,17 +117,14 @@ impl Core {
         let found = self.key_found(&table, &key)?;
         match found {
             Found::Refused(reply) => self.note(actor, Request::Delete { table, key }, reply),
-            Found::At { before: None, .. } => {
-                self.note(actor, Request::Delete { table, key }, Reply::Missing)
-            }
-            Found::At {
-                key: at,
-                before: Some(before),
-            } => {
-                let name = table.copy(self.alloc)?;
-                let request = Request::Delete { table, key };
-                self.write(actor, txn, request, name, at, Some(before), None)
-            }
+            Found::At { key: at, before } => match before {
+                None => self.note(actor, Request::Delete { table, key }, Reply::Missing),
+                Some(before) => {
+                    let name = table.copy(self.alloc)?;
+                    let request = Request::Delete { table, key };
+                    self.write(actor, txn, request, name, at, Some(before), None)
+                }
+            },
         }
     }
 
