@@ -1,5 +1,5 @@
 -- Which transformations fit a catalog, and why one doesn't.
-use Rattle.std.specs.Prelude.{◌≤◌, ◌+◌, ◌||◌, ⊤, Bool, false, not, IsTrue, ℕ, List, [], ◌∷◌, length, is_some, Option, Some, None, if◌then◌else◌}
+use Rattle.std.specs.Prelude.{◌≡◌, ◌≢◌, IsSome, Result, Ok, Err, ◌≤◌, ◌+◌, ◌||◌, ⊤, Bool, false, not, IsTrue, ℕ, List, [], ◌∷◌, length, is_some, Option, Some, None, if◌then◌else◌}
 use Rattle.std.specs.List.{list_any}
 use Rattle.sx_lists.specs.Answers.{or_later}
 use Rattle.sx_values.specs.Names.{same_name, has_name}
@@ -81,3 +81,8 @@ spec_fault catalog (Part table tests passing failing) = part_fault catalog (sche
 spec_fault catalog (Join left right on_left on_right into) = None
 spec_fault catalog (Split table by dep rest dependent) = None
 spec_fault catalog (Union left right into) = None
+
+-- the answer is Ok where there is no fault, and else the fault, or want of memory for a copy of it
+abbrev pub Refuses : Option SpecFault → Result (Unit {0}) SpecFault → Type 0
+Refuses expected (Ok done) = expected ≡ None
+Refuses expected (Err refusal) = IsSome expected × (refusal ≢ fault.Memory → expected ≡ Some refusal)

@@ -1,7 +1,7 @@
 // Copies of transformations.
 ghost use Rattle.std.specs.Prelude.{◌≡◌, IfOk};
 
-use crate::{Cmp, Spec, SpecFault, Test};
+use crate::{Cmp, Spec, SpecFault, Target, Test};
 use std::alloc::{AllocError, Global};
 use sx_lists::Copied;
 
@@ -67,6 +67,15 @@ impl Copied for Test {
 impl Copied for Cmp {
     fn copy(&self, _alloc: Global) -> Result<Self, AllocError> {
         Ok(*self)
+    }
+}
+
+impl Copied for Target {
+    fn copy(&self, alloc: Global) -> Result<Self, AllocError> {
+        Ok(Target {
+            name: self.name.copy(alloc)?,
+            schema: self.schema.copy(alloc)?,
+        })
     }
 }
 

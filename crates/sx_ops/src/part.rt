@@ -1,12 +1,37 @@
 // The horizontal split over a whole list of rows.
 ghost use Rattle.std.specs.Prelude.{◌≡◌, IfOk};
+ghost use Rattle.sx_ops.specs.Targets.{part_targets};
 ghost use Rattle.sx_ops.specs.Operators.{asks_for, is_true_of, value_named, passes, rows_passing, rows_failing, split_rows};
 
-use crate::{Cmp, RowLists, Rows, Test};
+use crate::{Cmp, RowLists, Rows, Target, Targets, Test};
 use std::alloc::{AllocError, Global};
 use std::cmp::Ordering;
 use sx_lists::Copied;
-use sx_values::{Column, Row, Value};
+use sx_values::{Column, Name, Row, Schema, Value};
+
+// Both new tables, which have the source's schema.
+pub(crate) fn part_targets(
+    alloc: Global,
+    source: &Schema,
+    yes: &Name,
+    no: &Name,
+) -> Result<Targets, AllocError>
+    ensures { IfOk result (λ made. made ≡ part_targets (Some source.now) yes.now no.now) }
+{
+    let mut targets = Targets::new(alloc);
+    targets.push(target_of(alloc, yes, source)?)?;
+    targets.push(target_of(alloc, no, source)?)?;
+    Ok(targets)
+}
+
+fn target_of(alloc: Global, name: &Name, schema: &Schema) -> Result<Target, AllocError>
+    ensures { IfOk result (λ made. made ≡ record { name = name.now; schema = schema.now }) }
+{
+    Ok(Target {
+        name: name.copy(alloc)?,
+        schema: schema.copy(alloc)?,
+    })
+}
 
 // The rows of both new tables, from the rows of the one source.
 pub(crate) fn split_rows(

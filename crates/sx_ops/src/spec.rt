@@ -1,12 +1,15 @@
 // Transformations as plain data, and what they make of tables.
 ghost use Rattle.std.specs.Prelude.{◌≡◌, IfOk};
-ghost use Rattle.sx_ops.specs.Checks.{IsShaped, spec_fault};
+ghost use Rattle.sx_ops.specs.Checks.{IsShaped, Refuses, spec_fault};
+ghost use Rattle.sx_ops.specs.Targets.{targets};
 ghost use Rattle.sx_ops.specs.Operators.{AreSourceRows, columns_of, sources_of, operator};
 
-use crate::part::split_rows;
-use crate::{RowLists, Tests};
+use crate::faults::{check_columns, check_names, check_types};
+use crate::part::{part_targets, split_rows};
+use crate::{RowLists, Targets, Tests};
 use std::alloc::{AllocError, Global};
-use sx_values::{Catalog, Column, Name, Names, Value};
+use sx_lists::Copied;
+use sx_values::{Catalog, Column, Name, Names, Schema, Value};
 
 /// A transformation: its sources, what decides, and its new tables.
 #[derive(Debug, Drop)]
@@ -61,6 +64,13 @@ pub enum Cmp {
     Ge,
 }
 
+/// A new table of a transformation.
+#[derive(Debug, Drop)]
+pub struct Target {
+    pub name: Name,
+    pub schema: Schema,
+}
+
 /// Why a transformation doesn't fit a catalog.
 #[derive(Debug, Drop)]
 pub enum SpecFault {
@@ -86,6 +96,46 @@ pub enum SpecFault {
 }
 
 impl Spec {
+    /// Whether the transformation fits a catalog; else its first fault, in the order of the refusals.
+    pub fn check(&self, alloc: Global, catalog: &Catalog) -> Result<(), SpecFault>
+        requires { IsShaped self.now }
+        ensures { Refuses (spec_fault catalog.now self.now) result }
+    {
+        match self {
+            Spec::Part {
+                table,
+                tests,
+                yes,
+                no,
+            } => {
+                let Some(source) = catalog.schema(table) else {
+                    return Err(SpecFault::NoTable {
+                        name: table.copy(alloc)?,
+                    });
+                };
+                check_columns(alloc, source.columns(), tests.as_slice())?;
+                check_types(1, source.columns(), tests.as_slice())?;
+                check_names(alloc, catalog, yes, no)
+            }
+            Spec::Join { .. } | Spec::Split { .. } | Spec::Union { .. } => unreachable!(),
+        }
+    }
+
+    /// The new tables in order: their names and schemas.
+    pub fn targets(&self, alloc: Global, catalog: &Catalog) -> Result<Targets, AllocError>
+        requires shaped { IsShaped self.now }
+        requires fits { spec_fault catalog.now self.now ≡ None }
+        ensures { IfOk result (λ made. made ≡ targets catalog.now self.now) }
+    {
+        match self {
+            Spec::Part { table, yes, no, .. } => match catalog.schema(table) {
+                Some(schema) => part_targets(alloc, schema, yes, no),
+                None => unreachable!(),
+            },
+            Spec::Join { .. } | Spec::Split { .. } | Spec::Union { .. } => unreachable!(),
+        }
+    }
+
     /// The rows of the new tables, in order, from the rows of each source: the slow and plain form.
     pub fn transform(
         &self,

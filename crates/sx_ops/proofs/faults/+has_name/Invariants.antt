@@ -1,0 +1,5 @@
+use Rattle.std.proofs.Common.{length}
+use Rattle.sx_ops.proofs.faults.+has_name.Given as goal
+
+abbrev pub decreases-has_name : goal.decreases-has_name
+decreases-has_name l = length l.columns.now
