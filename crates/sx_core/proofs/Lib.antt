@@ -2,5 +2,6 @@ pub mod KeptLemmas
 pub mod MeetLemmas
 pub mod ScanLemmas
 pub mod TableLemmas
+pub mod TransformLemmas
 pub mod TurnLemmas
 pub mod WriteLemmas

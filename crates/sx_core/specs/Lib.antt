@@ -1,4 +1,5 @@
 pub mod Changes
+pub mod Conflicts
 pub mod Kept
 pub mod Machines
 pub mod Meets

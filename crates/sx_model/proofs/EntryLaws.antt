@@ -1,15 +1,14 @@
 -- What one more entry leaves, by what it does.
-use Rattle.std.proofs.Common.{◌≡◌, ◌≤◌, ◌+◌, ◌++◌, ℕ, Bool, List, [], ◌∷◌, length, Option, Some, None, refl, sym, ap, ◌∙◌, subst, arith, unwrap_or}
+use Rattle.std.proofs.Common.{◌≡◌, ◌≤◌, ◌+◌, ◌++◌, ℕ, Bool, List, [], ◌∷◌, length, Option, Some, None, ap, ◌∙◌, arith, unwrap_or}
 use Rattle.std.specs.Option.{option_to_list}
-use Rattle.sx_values.specs.declared.value.Value.{Value}
 use Rattle.sx_log.specs.declared.record.Rec.{Rec}
 use Rattle.sx_log.specs.declared.record.Body.TheVariants.{Commit, Mark, Switch}
 use Rattle.sx_journal.specs.declared.entry.Entry.{Entry}
 use Rattle.sx_model.specs.Effects.{Effect, Nothing, Begins, Writes, Commits, Starts, Sees, Conflicts, Switches, effect}
 use Rattle.sx_model.specs.Openings.{Opening}
-use Rattle.sx_model.specs.Leaves.{Living, living_after, living, without, txn_among, txn_of, begun, phase}
+use Rattle.sx_model.specs.Leaves.{living_after, living, txn_of}
 use Rattle.sx_model.specs.Logs.{log_of, next_lsn, write_record, event_record, effect_record, entry_record}
-use Rattle.sx_model.proofs.Outcomes.{Begun, Written, Committed, Starting}
+use Rattle.sx_model.proofs.Outcomes.{Written, Committed}
 
 -- the log behind an entry with this effect
 abbrev pub log_after : Opening → List Entry → Entry → Effect → List Rec
@@ -39,13 +38,13 @@ txn_here past e txn client inside = ap (λ n. unwrap_or (txn_of past n) 0) clien
 pub log-written : (o : Opening) (past : List Entry) (e : Entry) (w : Written o past e) → log_of o (e ∷ past) ≡ write_record (log_of o past) w.txn w.table w.key w.after ∷ log_of o past
 log-written o past e w =
     log_by o past e Writes w.told
-      ∙ (ap (λ t. option_to_list (event_record o.catalog (log_of o past) t e.event) ++ log_of o past) (txn_here past e w.txn w.client w.inside)
-        ∙ ap (λ r. option_to_list r ++ log_of o past) w.made)
+    ∙ (ap (λ t. option_to_list (event_record o.catalog (log_of o past) t e.event) ++ log_of o past) (txn_here past e w.txn w.client w.inside)
+    ∙ ap (λ r. option_to_list r ++ log_of o past) w.made)
 
 pub log-committed : (o : Opening) (past : List Entry) (e : Entry) (c : Committed o past e) → log_of o (e ∷ past) ≡ record { txn = c.txn; body = Commit } ∷ log_of o past
 log-committed o past e c =
     log_by o past e Commits c.told
-      ∙ ap (λ t. record { txn = t; body = Commit } ∷ log_of o past) (txn_here past e c.txn c.client c.inside)
+    ∙ ap (λ t. record { txn = t; body = Commit } ∷ log_of o past) (txn_here past e c.txn c.client c.inside)
 
 pub log-started : (o : Opening) (past : List Entry) (e : Entry) (mark : ℕ) → effect e.reply ≡ Starts mark → log_of o (e ∷ past) ≡ record { txn = 0; body = Mark } ∷ log_of o past
 log-started o past e mark told = log_by o past e (Starts mark) told

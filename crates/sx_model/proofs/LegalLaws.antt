@@ -1,23 +1,18 @@
 -- Legal journals: who lives, and how far a transformation has come.
-use Rattle.std.proofs.Common.{◌≡◌, ◌≤◌, ◌+◌, ◌++◌, ◌⊎◌, ℕ, suc, Bool, true, false, List, [], ◌∷◌, length, Option, Some, None, refl, sym, ap, ap₂, ◌∙◌, subst, inl, inr, ⊎_elim, arith, unwrap_or, if◌then◌else◌}
-use Rattle.std.specs.Option.{option_to_list}
+use Rattle.std.proofs.Common.{◌≡◌, ◌≤◌, ◌+◌, ◌⊎◌, ◌↔◌, ℕ, suc, Bool, true, false, List, [], ◌∷◌, length, Option, Some, None, refl, sym, ap, ap₂, ◌∙◌, subst, inl, inr, arith, if◌then◌else◌}
 use Rattle.sx_values.specs.declared.catalog.Declared.{Declared}
-use Rattle.sx_ops.specs.declared.spec.Spec.{Spec}
 use Rattle.sx_ops.specs.Checks.{IsShaped, spec_fault}
-use Rattle.sx_sync.specs.declared.Strategy.{Strategy}
 use Rattle.sx_sync.specs.declared.Strategy.TheVariants.{Blocking}
 use Rattle.sx_sync.specs.declared.Phase.{Phase}
 use Rattle.sx_sync.specs.declared.Phase.TheVariants.{Idle, Scanning, Chasing, Draining, Late, Done}
 use Rattle.sx_journal.specs.declared.entry.Entry.{Entry}
-use Rattle.sx_journal.specs.declared.entry.Event.{Event}
-use Rattle.sx_journal.specs.declared.entry.Event.TheVariants as event
 use Rattle.sx_model.specs.Effects.{Effect, Nothing, Reads, Begins, Writes, Undoes, Commits, Aborts, Starts, Sees, Fetches, Checks, Conflicts, Violates, Switches, Cancels, effect}
 use Rattle.sx_model.specs.Openings.{Opening}
-use Rattle.sx_model.specs.Leaves.{Living, living_after, living, without, txn_among, txn_of, begun, Started, started, started_as, started_by, drains, phase, phase_after}
-use Rattle.sx_model.specs.Logs.{log_of, next_lsn, effect_record}
+use Rattle.sx_model.specs.Leaves.{Living, living, without, txn_among, begun, Started, started, started_as, started_by, drains, phase, phase_after}
+use Rattle.sx_model.specs.Logs.{log_of, next_lsn}
 use Rattle.sx_model.specs.Switches.{position, position_after}
-use Rattle.sx_model.specs.Legal.{Legal, IsLegalEntry}
-use Rattle.sx_model.proofs.Outcomes.{Begun, Written, Committed, Starting, Seeing, Attempting, Outcome, rests, begins, writes, commits, starts, sees, conflicts, switches, outcome}
+use Rattle.sx_model.specs.Legal.{Legal}
+use Rattle.sx_model.proofs.Outcomes.{Starting, Outcome, rests, begins, writes, commits, starts, sees, conflicts, switches, outcome}
 use Rattle.sx_model.proofs.EntryLaws.{log_after, living_by}
 
 -- nobody, or client 1 alone
@@ -115,33 +110,33 @@ still_before o past p end idle far = before idle (none_before o.catalog (phase p
 
 now_under_way : (o : Opening) (past : List Entry) (e : Entry) → Starting o past e → HowFarAfter o past e (Starts (next_lsn o past))
 now_under_way o past e s = under_way (record {
-      s = record { spec = s.spec; strategy = Blocking; mark = next_lsn o past };
-      this = ap (λ asked. started_as asked (next_lsn o past) (started past)) s.asked;
-      running = λ same. cc;
-      shaped = s.shaped;
-      fits = s.fits;
-      blocking = refl;
-      from_one = omega arith;
-      within = omega arith;
-      read = refl;
-      still = λ done. omega arith;
-    })
+  s = record { spec = s.spec; strategy = Blocking; mark = next_lsn o past };
+  this = ap (λ asked. started_as asked (next_lsn o past) (started past)) s.asked;
+  running = λ same. cc;
+  shaped = s.shaped;
+  fits = s.fits;
+  blocking = refl;
+  from_one = omega arith;
+  within = omega arith;
+  read = refl;
+  still = λ done. omega arith;
+})
 
 -- where the phase alone moves, and not to Idle or Done
 moved_on : (catalog : List Declared) (at next : Phase) (is : Option Started) (position end : ℕ) → (at ≡ Idle → ⊥) → (at ≡ Done → ⊥) → (next ≡ Idle → ⊥) → Progress catalog at is position end → Progress catalog next is position end
 moved_on catalog at next is position end busy undone more (before idle none) = absurd (busy idle)
 moved_on catalog at next is position end busy undone more (under_way u) = under_way (record {
-      s = u.s;
-      this = u.this;
-      running = more;
-      shaped = u.shaped;
-      fits = u.fits;
-      blocking = u.blocking;
-      from_one = u.from_one;
-      within = u.within;
-      read = u.read;
-      still = λ done. u.still undone;
-    })
+  s = u.s;
+  this = u.this;
+  running = more;
+  shaped = u.shaped;
+  fits = u.fits;
+  blocking = u.blocking;
+  from_one = u.from_one;
+  within = u.within;
+  read = u.read;
+  still = λ done. u.still undone;
+})
 
 seen_far : (o : Opening) (past : List Entry) (last : Bool) → phase past ≡ Scanning → HowFar o past → Progress o.catalog (if last then Chasing else phase past) (started past) (position o past) (length (log_of o past))
 seen_far o past true scanning far = moved_on o.catalog (phase past) Chasing (started past) (position o past) (length (log_of o past)) (λ idle. cc) (λ done. cc) (λ idle. cc) far
@@ -162,17 +157,17 @@ scanned_undone at (inr e) done = cc
 switched_far : (catalog : List Declared) (at : Phase) (is : Option Started) (position end : ℕ) → (at ≡ Idle → ⊥) → Progress catalog at is position end → Progress catalog Done is position (suc end)
 switched_far catalog at is position end busy (before idle none) = absurd (busy idle)
 switched_far catalog at is position end busy (under_way u) = under_way (record {
-      s = u.s;
-      this = u.this;
-      running = λ idle. cc;
-      shaped = u.shaped;
-      fits = u.fits;
-      blocking = u.blocking;
-      from_one = u.from_one;
-      within = (let h = u.within in omega arith);
-      read = u.read;
-      still = λ done. absurd (done refl);
-    })
+  s = u.s;
+  this = u.this;
+  running = λ idle. cc;
+  shaped = u.shaped;
+  fits = u.fits;
+  blocking = u.blocking;
+  from_one = u.from_one;
+  within = (let h = u.within in omega arith);
+  read = u.read;
+  still = λ done. absurd (done refl);
+})
 
 far_after : (o : Opening) (past : List Entry) (e : Entry) → HowFar o past → Outcome o past e → HowFar o (e ∷ past)
 far_after o past e far (rests told) = far_by o past e Nothing told far
@@ -188,3 +183,12 @@ far_after o past e far (switches a told) = far_by o past e Switches told (switch
 pub legal_progress : (o : Opening) (past : List Entry) → Legal o past → HowFar o past
 legal_progress o [] l = before refl refl
 legal_progress o (e ∷ past) l = far_after o past e (legal_progress o past l.0) (outcome o past e l.1)
+
+idle_of : (catalog : List Declared) (at : Phase) (is : Option Started) (position end : ℕ) → Progress catalog at is position end → is ≡ None → at ≡ Idle
+idle_of catalog at is position end (before idle none) e = idle
+idle_of catalog at is position end (under_way u) e = (let this = u.this in absurd (cc))
+
+pub idle_unstarted : (o : Opening) (past : List Entry) → Legal o past → (phase past ≡ Idle) ↔ (started past ≡ None)
+idle_unstarted o past l =
+    let far = legal_progress o past l in
+    (none_before o.catalog (phase past) (started past) (position o past) (length (log_of o past)) far, idle_of o.catalog (phase past) (started past) (position o past) (length (log_of o past)) far)

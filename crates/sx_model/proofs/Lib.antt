@@ -6,3 +6,4 @@ pub mod RestLaws
 pub mod ScanLaws
 pub mod ScriptLaws
 pub mod StateLaws
+pub mod TestLaws

@@ -1,5 +1,5 @@
 -- Whose LSN a row has: that of the record about its key with that number.
-use Rattle.std.proofs.Common.{◌≡◌, ◌≤◌, ◌<◌, ◌+◌, ◌==◌, ◌&&◌, ℕ, zero, suc, Bool, true, false, List, [], ◌∷◌, length, Option, Some, None, refl, sym, ap, ◌∙◌, subst, arith, cond, if◌then◌else◌, eqb-true, Ordering, Less, Equal, Greater, is_eq}
+use Rattle.std.proofs.Common.{◌≡◌, ◌≤◌, ◌+◌, ℕ, true, List, [], ◌∷◌, length, Option, Some, None, refl, sym, ap, ◌∙◌, subst, arith, Ordering, Less, Equal, Greater, is_eq}
 use Rattle.std.proofs.lemmas.Bool.Decides.{nat_tests}
 use Rattle.sx_lists.specs.Places.{numbered}
 use Rattle.sx_values.specs.declared.value.Value.{Value}
@@ -9,9 +9,10 @@ use Rattle.sx_values.proofs.KeyLaws.{values_tie}
 use Rattle.sx_log.specs.declared.record.Rec.{Rec}
 use Rattle.sx_log.specs.declared.record.Body.{Body}
 use Rattle.sx_log.specs.declared.record.Body.TheVariants.{Write, Undo, Commit, Abort, Mark, Check, Switch}
-use Rattle.sx_log.specs.State.{Stored, stored, is_place, after_body, state_at}
+use Rattle.sx_log.specs.State.{Stored, stored, state_at}
 use Rattle.sx_model.specs.Scans.{is_about}
-use Rattle.sx_model.proofs.StateLaws.{image_of, after_elsewhere, after_there, and_second, by_cases}
+use Rattle.sx_model.proofs.StateLaws.{image_of, after_elsewhere, after_there}
+use Rattle.sx_model.proofs.TestLaws.{and_second, by_cases}
 
 -- the record of a row's LSN
 pub record IsRecordOf (log : List Rec) (table : List ℕ) (key row : List Value) (lsn : ℕ) : Type 0 where
@@ -74,7 +75,7 @@ pub record_of : (log : List Rec) (table : List ℕ) (key row : List Value) (lsn 
 record_of [] table key row lsn e = absurd (cc)
 record_of (r ∷ past) table key row lsn e =
     by_cases (is_about r.body table key) (record_here r past table key row lsn e) (λ a.
-      record_earlier r past table key row lsn (record_of past table key row lsn (sym (after_elsewhere (length past + 1) r.body table key (state_at past table key) a) ∙ e)))
+    record_earlier r past table key row lsn (record_of past table key row lsn (sym (after_elsewhere (length past + 1) r.body table key (state_at past table key) a) ∙ e)))
 
 -- an LSN is from 1 to the log's length
 pub lsn_from_one : (log : List Rec) (table : List ℕ) (key row : List Value) (lsn : ℕ) → state_at log table key ≡ Some (row, lsn) → 1 ≤ lsn

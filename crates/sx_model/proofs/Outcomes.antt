@@ -1,5 +1,5 @@
 -- What a legal entry does, behind the entries before it.
-use Rattle.std.proofs.Common.{◌≡◌, ◌+◌, ◌-◌, ◌⊎◌, nat_lt, length, if◌then◌else◌, ℕ, Bool, true, false, List, [], ◌∷◌, Option, Some, None, refl, sym, ap, ◌∙◌, subst, inl, inr, ⊎_elim}
+use Rattle.std.proofs.Common.{◌≡◌, ◌+◌, ◌-◌, ◌⊎◌, nat_lt, length, if◌then◌else◌, ℕ, Bool, true, false, List, Option, Some, None, refl, sym, ap, ◌∙◌, subst, inl, inr}
 use Rattle.sx_values.specs.declared.value.Value.{Value}
 use Rattle.sx_values.specs.declared.schema.BadRow.{BadRow}
 use Rattle.sx_values.specs.Layouts.{Layout, row_fault, key_fault, key_of}
@@ -11,7 +11,6 @@ use Rattle.sx_sync.specs.declared.Strategy.{Strategy}
 use Rattle.sx_sync.specs.declared.Strategy.TheVariants.{Blocking}
 use Rattle.sx_sync.specs.declared.Phase.{Phase}
 use Rattle.sx_sync.specs.declared.Phase.TheVariants.{Idle, Scanning, Chasing, Draining, Late, Done}
-use Rattle.sx_log.specs.declared.record.Rec.{Rec}
 use Rattle.sx_journal.specs.declared.entry.Entry.{Entry}
 use Rattle.sx_journal.specs.declared.entry.Event.{Event}
 use Rattle.sx_journal.specs.declared.entry.Event.TheVariants as event
@@ -19,14 +18,14 @@ use Rattle.sx_journal.specs.declared.entry.Request.{Request}
 use Rattle.sx_journal.specs.declared.entry.Request.TheVariants as request
 use Rattle.sx_journal.specs.declared.entry.Reply.{Reply}
 use Rattle.sx_journal.specs.declared.entry.Reply.TheVariants as reply
-use Rattle.sx_model.specs.Effects.{Effect, Nothing, Reads, Begins, Writes, Undoes, Commits, Aborts, Starts, Sees, Fetches, Checks, Conflicts, Violates, Switches, Cancels, effect}
+use Rattle.sx_model.specs.Effects.{Nothing, Begins, Writes, Commits, Starts, Sees, Conflicts, Switches, effect}
 use Rattle.sx_model.specs.Openings.{Opening, key_in}
 use Rattle.sx_model.specs.Leaves.{Started, started, txn_of, begun, phase}
 use Rattle.sx_model.specs.Logs.{log_of, next_lsn, row_now, write_record, request_record, event_record}
-use Rattle.sx_model.specs.Replies.{unless_bad, insert_answer, change_answer, insert_reply, update_reply, delete_reply, reply_outside, reply_inside, reply_in, client_reply, start_answer, start_in, start_reply}
+use Rattle.sx_model.specs.Replies.{unless_bad, insert_answer, change_answer, insert_reply, update_reply, delete_reply, reply_outside, reply_inside, reply_in, client_reply, start_answer, start_in}
 use Rattle.sx_model.specs.Scans.{IsScanTurn}
-use Rattle.sx_model.specs.Switches.{switch_unless, tail_reply, attempt_reply, switch_in, switch_reply, conflict, position}
-use Rattle.sx_model.specs.Legal.{AllowsClient, AllowsStart, AllowsScan, AllowsSwitch, ScanAnswer, Allows, IsLegalEntry}
+use Rattle.sx_model.specs.Switches.{switch_unless, attempt_reply, switch_in, conflict, position}
+use Rattle.sx_model.specs.Legal.{AllowsClient, AllowsStart, ScanAnswer, Allows, IsLegalEntry}
 
 -- the client begins a transaction
 pub record Begun (o : Opening) (past : List Entry) (e : Entry) : Type 0 where
@@ -129,16 +128,16 @@ write_outcome : (o : Opening) (past : List Entry) (asked : Request) (answer show
 unfolding event_record
 write_outcome o past asked answer shown txn table key after idle inside e made (inl quiet) = rests (ap effect (sym (some_tells shown answer e)) ∙ quiet)
 write_outcome o past asked answer shown txn table key after idle inside e made (inr told) = writes (record {
-      client = refl;
-      idle = idle;
-      txn = txn;
-      inside = inside;
-      told = ap effect (sym (some_tells shown answer e)) ∙ told;
-      table = table;
-      key = key;
-      after = after;
-      made = made;
-    })
+  client = refl;
+  idle = idle;
+  txn = txn;
+  inside = inside;
+  told = ap effect (sym (some_tells shown answer e)) ∙ told;
+  table = table;
+  key = key;
+  after = after;
+  made = made;
+})
 
 -- the outcome of a reply that changes nothing
 quiet_outcome : (o : Opening) (past : List Entry) (e : Entry) (shown : Reply) → Some shown ≡ Some e.reply → effect shown ≡ Nothing → Outcome o past e
@@ -147,11 +146,11 @@ quiet_outcome o past e shown same quiet = rests (ap effect (sym (some_tells show
 outside_outcome : (o : Opening) (past : List Entry) (asked : Request) (answer : Reply) → phase past ≡ Idle → txn_of past 1 ≡ None → Some (reply_outside past asked) ≡ Some answer → Outcome o past (record { actor = 1; event = event.Client asked; reply = answer })
 unfolding reply_outside effect
 outside_outcome o past request.Begin answer idle outside e = begins (record {
-      client = refl;
-      idle = idle;
-      outside = outside;
-      told = ap effect (sym (some_tells (reply.Begun (begun past + 1)) answer e));
-    })
+  client = refl;
+  idle = idle;
+  outside = outside;
+  told = ap effect (sym (some_tells (reply.Begun (begun past + 1)) answer e));
+})
 outside_outcome o past (request.Read table key) answer idle outside e = quiet_outcome o past (record { actor = 1; event = event.Client (request.Read table key); reply = answer }) reply.NoTxn e refl
 outside_outcome o past (request.Insert table row) answer idle outside e = quiet_outcome o past (record { actor = 1; event = event.Client (request.Insert table row); reply = answer }) reply.NoTxn e refl
 outside_outcome o past (request.Update table row) answer idle outside e = quiet_outcome o past (record { actor = 1; event = event.Client (request.Update table row); reply = answer }) reply.NoTxn e refl
@@ -169,12 +168,12 @@ inside_outcome o past (request.Update table row) answer txn idle inside e =
 inside_outcome o past (request.Delete table key) answer txn idle inside e =
     write_outcome o past (request.Delete table key) answer (delete_reply o past table (schema_of o.catalog table) key) txn table key None idle inside e refl (delete-writing o past table (schema_of o.catalog table) key)
 inside_outcome o past request.Commit answer txn idle inside e = commits (record {
-      client = refl;
-      idle = idle;
-      txn = txn;
-      inside = inside;
-      told = ap effect (sym (some_tells (reply.Committed (next_lsn o past)) answer e));
-    })
+  client = refl;
+  idle = idle;
+  txn = txn;
+  inside = inside;
+  told = ap effect (sym (some_tells (reply.Committed (next_lsn o past)) answer e));
+})
 inside_outcome o past (request.Read table key) answer txn idle inside e = absurd (cc)
 inside_outcome o past request.Undo answer txn idle inside e = absurd (cc)
 
@@ -191,13 +190,13 @@ fault_outcome : (o : Opening) (past : List Entry) (spec : Spec) (answer : Reply)
 unfolding effect
 fault_outcome o past spec answer (Some fault) idle shaped is e = rests (ap effect e)
 fault_outcome o past spec answer None idle shaped is e = starts (record {
-      idle = idle;
-      spec = spec;
-      shaped = shaped;
-      fits = is;
-      asked = refl;
-      told = ap effect e;
-    })
+  idle = idle;
+  spec = spec;
+  shaped = shaped;
+  fits = is;
+  asked = refl;
+  told = ap effect e;
+})
 
 phase_outcome : (o : Opening) (past : List Entry) (spec : Spec) (answer : Reply) (at : Phase) → phase past ≡ at → IsShaped spec → answer ≡ start_in o past at spec → Outcome o past (record { actor = 0; event = event.Start spec Blocking; reply = answer })
 unfolding effect
@@ -211,7 +210,7 @@ phase_outcome o past spec answer Done is shaped e = rests (ap effect e)
 start_outcome : (o : Opening) (past : List Entry) (actor : ℕ) (spec : Spec) (strategy : Strategy) (answer : Reply) → AllowsStart o past actor spec strategy answer → Outcome o past (record { actor = actor; event = event.Start spec strategy; reply = answer })
 start_outcome o past actor spec strategy answer a =
     subst (λ n. Outcome o past (record { actor = n; event = event.Start spec strategy; reply = answer })) (sym a.propagator)
-      (subst (λ t. Outcome o past (record { actor = 0; event = event.Start spec t; reply = answer })) (sym a.blocking) (phase_outcome o past spec answer (phase past) refl a.shaped a.answered))
+    (subst (λ t. Outcome o past (record { actor = 0; event = event.Start spec t; reply = answer })) (sym a.blocking) (phase_outcome o past spec answer (phase past) refl a.shaped a.answered))
 
 -- a scan turn
 scan_outcome : (o : Opening) (past : List Entry) (actor n : ℕ) (answer : Reply) → ScanAnswer o past n answer → Outcome o past (record { actor = actor; event = event.Scan n; reply = answer })

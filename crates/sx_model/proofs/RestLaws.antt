@@ -1,27 +1,29 @@
 -- At rest, where no transaction lives, the committed writes leave the rows that the whole log leaves.
-use Rattle.std.proofs.Common.{◌≡◌, ◌+◌, ◌++◌, ◌==◌, ◌&&◌, ◌||◌, ℕ, Bool, true, false, cond, List, [], ◌∷◌, length, Option, Some, None, option_map, refl, sym, ap, ◌∙◌, subst, subst₂, arith, eq-eqb, eqb-true, inl, inr}
+use Rattle.std.proofs.Common.{◌≡◌, ◌+◌, ◌++◌, ◌==◌, ◌&&◌, ◌||◌, ℕ, Bool, true, false, List, [], ◌∷◌, length, map, reverse, Option, Some, None, option_map, refl, sym, ap, ◌∙◌, subst, subst₂, eq-eqb}
 use Rattle.std.specs.Prelude.{filter}
 use Rattle.std.specs.List.{AllByRecursion}
+use Rattle.std.proofs.lemmas.List.{reverse-append}
 use Rattle.sx_values.specs.declared.value.Value.{Value}
 use Rattle.sx_values.specs.declared.catalog.Declared.{Declared}
-use Rattle.sx_values.specs.Layouts.{Layout, Admits, key_of}
+use Rattle.sx_values.specs.Layouts.{Layout}
 use Rattle.sx_log.specs.declared.record.Rec.{Rec}
-use Rattle.sx_log.specs.declared.record.Body.{Body}
-use Rattle.sx_log.specs.declared.record.Body.TheVariants.{Write, Undo, Commit, Abort, Mark, Check, Switch}
-use Rattle.sx_log.specs.State.{Stored, stored, is_place, after_body, state_at, row_left}
+use Rattle.sx_log.specs.declared.record.Load.{Load}
+use Rattle.sx_log.specs.declared.record.Body.TheVariants.{Commit, Mark, Switch}
+use Rattle.sx_log.specs.State.{Stored, stored, state_at, row_left}
 use Rattle.sx_log.specs.Committed.{is_write, is_commit, commits, is_committed, committed}
 use Rattle.sx_ops.specs.Operators.{sources_of}
 use Rattle.sx_journal.specs.declared.entry.Entry.{Entry}
-use Rattle.sx_model.specs.Effects.{Effect, Nothing, Begins, Writes, Commits, Starts, Sees, Conflicts, Switches, effect}
+use Rattle.sx_model.specs.Effects.{Effect, Nothing, Writes, Starts, Sees, Conflicts, Switches, effect}
 use Rattle.sx_model.specs.Openings.{Opening, opening, load_record}
 use Rattle.sx_model.specs.LoadRecords.{IsLoaded, IsOpened}
-use Rattle.sx_model.specs.Leaves.{Living, living, living_after, without, txn_among, txn_of, begun, Started, phase}
+use Rattle.sx_model.specs.Leaves.{living, living_after, txn_among, txn_of, begun, Started}
 use Rattle.sx_model.specs.Logs.{log_of, next_lsn, write_record}
 use Rattle.sx_model.specs.Scans.{is_about}
 use Rattle.sx_model.specs.Legal.{Legal}
-use Rattle.sx_model.specs.Tables.{row_of_key, AreRows, AreDeclaredRows, AreRowLists, IsOperatorOn, AreNewTables, AreCommittedNewTables}
-use Rattle.sx_model.proofs.StateLaws.{image_of, after_elsewhere, after_there, by_cases}
-use Rattle.sx_model.proofs.Outcomes.{Begun, Written, Committed, Starting, Seeing, Attempting, Outcome, rests, begins, writes, commits as commits_now, starts, sees, conflicts, switches, outcome}
+use Rattle.sx_model.specs.Tables.{AreRows, AreDeclaredRows, AreRowLists, IsOperatorOn, AreNewTables, AreCommittedNewTables}
+use Rattle.sx_model.proofs.StateLaws.{image_of, after_elsewhere, after_there}
+use Rattle.sx_model.proofs.TestLaws.{by_cases}
+use Rattle.sx_model.proofs.Outcomes.{Outcome, rests, begins, writes, commits as commits_now, starts, sees, conflicts, switches, outcome}
 use Rattle.sx_model.proofs.EntryLaws.{living_by, log-quiet, log-begun, log-conflict, log-written, log-committed, log-started, log-switched, log-saw}
 
 or_true : (a b : Bool) → b ≡ true → (a || b) ≡ true
@@ -45,6 +47,23 @@ settles_later x log txn r (open_yet w t) = open_yet w t
 all_map : {T : Type 0} (P Q : T → Type 0) → ((x : T) → P x → Q x) → (xs : List T) → AllByRecursion P xs → AllByRecursion Q xs
 all_map P Q each [] all = tt
 all_map P Q each (x ∷ xs) all = (each x all.0, all_map P Q each xs all.1)
+
+all_append : {T : Type 0} (P : T → Type 0) (xs ys : List T) → AllByRecursion P xs → AllByRecursion P ys → AllByRecursion P (xs ++ ys)
+all_append P [] ys a b = b
+all_append P (x ∷ xs) ys a b = (a.0, all_append P xs ys a.1 b)
+
+all_reverse : {T : Type 0} (P : T → Type 0) (xs : List T) → AllByRecursion P xs → AllByRecursion P (reverse xs)
+all_reverse P [] a = tt
+all_reverse P (x ∷ xs) a = subst (AllByRecursion P) (sym (reverse-append (x ∷ []) xs)) (all_append P (reverse xs) (x ∷ []) (all_reverse P xs a.1) (a.0, tt))
+
+each_loaded : (catalog : List Declared) (loads : List Load) → AllByRecursion IsLoaded (map (load_record catalog) loads)
+unfolding is_write
+each_loaded catalog [] = tt
+each_loaded catalog (load ∷ loads) = (record { nobody = refl; write = refl }, each_loaded catalog loads)
+
+-- what loaded rows open has their records alone
+pub opening_opened : (catalog : List Declared) (loads : List Load) → IsOpened (opening catalog loads)
+opening_opened catalog loads = all_reverse IsLoaded (map (load_record catalog) loads) (each_loaded catalog loads)
 
 -- where nobody lives a transaction may begin
 settles_begun : (log : List Rec) (txn : Option ℕ) (r : Rec) → Settles log None r → Settles log txn r
@@ -101,21 +120,21 @@ settled_after : (o : Opening) (past : List Entry) (e : Entry) → Settled (log_o
 settled_after o past e s (rests told) = moved (log_of o (e ∷ past)) (log_of o past) (txn_of (e ∷ past) 1) (txn_of past 1) (log-quiet o past e told) (txn_by past e Nothing told) s
 settled_after o past e s (begins b) =
     moved (log_of o (e ∷ past)) (log_of o past) (txn_of (e ∷ past) 1) (txn_of (e ∷ past) 1) (log-begun o past e (begun past + 1) b.told) refl
-      (all_map (Settles (log_of o past) None) (Settles (log_of o past) (txn_of (e ∷ past) 1)) (settles_begun (log_of o past) (txn_of (e ∷ past) 1)) (log_of o past) (subst (Settled (log_of o past)) b.outside s))
+    (all_map (Settles (log_of o past) None) (Settles (log_of o past) (txn_of (e ∷ past) 1)) (settles_begun (log_of o past) (txn_of (e ∷ past) 1)) (log_of o past) (subst (Settled (log_of o past)) b.outside s))
 settled_after o past e s (writes w) =
     moved (log_of o (e ∷ past)) (write_record (log_of o past) w.txn w.table w.key w.after ∷ log_of o past) (txn_of (e ∷ past) 1) (txn_of past 1) (log-written o past e w) (txn_by past e Writes w.told)
-      (written_settled (log_of o past) (txn_of past 1) w.txn w.table w.key w.after w.inside s)
+    (written_settled (log_of o past) (txn_of past 1) w.txn w.table w.key w.after w.inside s)
 settled_after o past e s (commits_now c) =
     moved (log_of o (e ∷ past)) (record { txn = c.txn; body = Commit } ∷ log_of o past) (txn_of (e ∷ past) 1) (txn_of (e ∷ past) 1) (log-committed o past e c) refl
-      (committed_settled (log_of o past) c.txn (txn_of (e ∷ past) 1) (subst (Settled (log_of o past)) c.inside s))
+    (committed_settled (log_of o past) c.txn (txn_of (e ∷ past) 1) (subst (Settled (log_of o past)) c.inside s))
 settled_after o past e s (starts t) =
     moved (log_of o (e ∷ past)) (record { txn = 0; body = Mark } ∷ log_of o past) (txn_of (e ∷ past) 1) (txn_of past 1) (log-started o past e (next_lsn o past) t.told) (txn_by past e (Starts (next_lsn o past)) t.told)
-      (quiet_record (record { txn = 0; body = Mark }) (log_of o past) (txn_of past 1) mark_quiet s)
+    (quiet_record (record { txn = 0; body = Mark }) (log_of o past) (txn_of past 1) mark_quiet s)
 settled_after o past e s (sees t) = moved (log_of o (e ∷ past)) (log_of o past) (txn_of (e ∷ past) 1) (txn_of past 1) (log-saw o past e t.lsns t.last t.told) (txn_by past e (Sees t.lsns t.last) t.told) s
 settled_after o past e s (conflicts a told) = moved (log_of o (e ∷ past)) (log_of o past) (txn_of (e ∷ past) 1) (txn_of past 1) (log-conflict o past e told) (txn_by past e Conflicts told) s
 settled_after o past e s (switches a told) =
     moved (log_of o (e ∷ past)) (record { txn = 0; body = Switch } ∷ log_of o past) (txn_of (e ∷ past) 1) (txn_of past 1) (log-switched o past e told) (txn_by past e Switches told)
-      (quiet_record (record { txn = 0; body = Switch }) (log_of o past) (txn_of past 1) switch_quiet s)
+    (quiet_record (record { txn = 0; body = Switch }) (log_of o past) (txn_of past 1) switch_quiet s)
 
 -- in a legal journal each record changes no row, or is a committed write, or one of the transaction that lives
 legal_settled : (o : Opening) (past : List Entry) → IsOpened o → Legal o past → Settled (log_of o past) (txn_of past 1)

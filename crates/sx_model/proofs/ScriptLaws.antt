@@ -1,5 +1,5 @@
 -- Journals of one thread keep the script, and are complete once its lines are done and the switch is.
-use Rattle.std.proofs.Common.{◌≡◌, ◌≤◌, ◌<◌, ◌+◌, ◌==◌, ◌⊎◌, ℕ, zero, suc, Bool, true, false, List, [], ◌∷◌, length, take, get_or, Option, Some, None, option_map, refl, sym, ap, ◌∙◌, subst, inl, inr, ⊎_elim, arith, eq-eqb, eqb-true, take_all, le_trans}
+use Rattle.std.proofs.Common.{◌≡◌, ◌≢◌, ◌≤◌, ◌<◌, ◌==◌, ◌⊎◌, ℕ, zero, suc, Bool, true, false, List, [], ◌∷◌, length, take, get_or, Option, Some, None, option_map, refl, sym, ap, ◌∙◌, subst, inl, inr, ⊎_elim, arith, eq-eqb, take_all, le_trans}
 use Rattle.std.specs.Prelude.{⊤, filter, slice_get, MatchOption}
 use Rattle.std.proofs.lemmas.Option.{slice_get_cases, slice_get_past, slice_get_within, slice_get-get_or}
 use Rattle.std.proofs.lemmas.Bool.{cases_lt}
@@ -14,7 +14,7 @@ use Rattle.sx_journal.specs.declared.entry.Request.{Request}
 use Rattle.sx_journal.specs.declared.entry.Request.TheVariants.{Commit}
 use Rattle.sx_model.specs.Leaves.{phase}
 use Rattle.sx_model.specs.Schedules.{Line, Plan, own, lines_of, next_request, KeepsEvent, KeepsScript, IsSwitched, IsComplete, propagator_event, Turn, client_turn, propagator_turn, turn_at, next_turn, Stepped}
-use Rattle.sx_model.proofs.StateLaws.{by_cases}
+use Rattle.sx_model.proofs.TestLaws.{by_cases}
 
 -- an item that passes stands among those that pass, behind those that pass before it
 pub place_in_filter : {T : Type 0} (p : T → Bool) (xs : List T) (k : ℕ) (x : T) → slice_get xs k ≡ Some x → p x ≡ true → slice_get (filter p xs) (length (filter p (take k xs))) ≡ Some x
@@ -76,6 +76,7 @@ turned plan past e stepped = by_place (slice_get_cases plan.lines (length past))
   where
     event : Option Event
     event = propagator_event plan.change plan.strategy (phase past)
+
     by_place : ((x : Line) × (length past < length plan.lines) × (slice_get plan.lines (length past) ≡ Some x) × (get_or plan.lines (length past) x ≡ x)) ⊎ ((length plan.lines ≤ length past) × (slice_get plan.lines (length past) ≡ None)) → ByLine plan past e ⊎ ByPropagator plan past e
     by_place (inl here) =
         let both = turn_made past e (client_turn here.0) (sym (ap (λ l. turn_at l event) here.2) ∙ stepped.1) in
@@ -92,8 +93,8 @@ own_step : (plan : Plan) (past : List Entry) (e : Entry) (client : ℕ) → ByLi
 own_step plan past e client b earlier =
     let same : (e.actor == client) ≡ (b.line.client == client) = ap (λ n. n == client) b.client in
     by_cases (e.actor == client)
-      (λ mine. own-mine client e past mine ∙ (ap suc earlier ∙ sym (count_passing (λ (l : Line). l.client == client) plan.lines (length past) b.line b.is (sym same ∙ mine))))
-      (λ other. own-other client e past other ∙ (earlier ∙ sym (count_failing (λ (l : Line). l.client == client) plan.lines (length past) b.line b.is (sym same ∙ other))))
+    (λ mine. own-mine client e past mine ∙ (ap suc earlier ∙ sym (count_passing (λ (l : Line). l.client == client) plan.lines (length past) b.line b.is (sym same ∙ mine))))
+    (λ other. own-other client e past other ∙ (earlier ∙ sym (count_failing (λ (l : Line). l.client == client) plan.lines (length past) b.line b.is (sym same ∙ other))))
 
 -- while lines are left a client has an entry for each of its lines so far
 pub own_lines : (plan : Plan) (past : List Entry) → Stepped plan past → length past ≤ length plan.lines → (client : ℕ) → length (own client past) ≡ length (filter (λ (l : Line). l.client == client) (take (length past) plan.lines))
@@ -108,7 +109,7 @@ line_kept plan past e stepped b =
     let within = slice_get_within plan.lines (length past) b.line b.is in
     let counted = own_lines plan past stepped (omega arith) e.actor in
     ap (λ n. option_map (λ (l : Line). l.asked) (slice_get (lines_of plan e.actor) n)) counted
-      ∙ ap (option_map (λ (l : Line). l.asked)) (place_in_filter (λ (l : Line). l.client == e.actor) plan.lines (length past) b.line b.is (eq-eqb b.line.client e.actor (sym b.client)))
+    ∙ ap (option_map (λ (l : Line). l.asked)) (place_in_filter (λ (l : Line). l.client == e.actor) plan.lines (length past) b.line b.is (eq-eqb b.line.client e.actor (sym b.client)))
 
 -- an event of the propagator keeps the script
 event_kept : (plan : Plan) (past : List Entry) (actor : ℕ) (change : Option Spec) (at : Phase) (asked : Event) → plan.change ≡ change → propagator_event change plan.strategy at ≡ Some asked → KeepsEvent plan past actor asked
@@ -155,10 +156,10 @@ no_next_request plan past stepped over client = ap (option_map (λ (l : Line). l
 -- a journal of one thread is complete once its lines are done and the transformation, if there is one, is switched
 pub complete : (plan : Plan) (past : List Entry) → Stepped plan past → length plan.lines ≤ length past → MatchOption plan.change ⊤ (λ _. IsSwitched (phase past)) → IsComplete plan past
 complete plan past stepped over switched = record {
-      keeps = stepped_keeps plan past stepped;
-      ended = no_next_request plan past stepped over;
-      switched = switched;
-    }
+  keeps = stepped_keeps plan past stepped;
+  ended = no_next_request plan past stepped over;
+  switched = switched;
+}
 
 propagator_done : (change : Option Spec) (strategy : Strategy) (at : Phase) → (at ≡ Draining → ⊥) → propagator_event change strategy at ≡ None → MatchOption change ⊤ (λ _. IsSwitched at)
 propagator_done None strategy at free e = tt
@@ -176,5 +177,5 @@ complete_by plan past None None is next stepped free e =
     ⊎_elim (λ few. absurd (let here = slice_get-get_or plan.lines (length past) (record { client = 0; asked = Commit }) few in cc)) (λ over. complete plan past stepped over (propagator_done plan.change plan.strategy (phase past) free next)) (cases_lt (length past) (length plan.lines))
 
 -- a journal of one thread without a next turn is complete, unless a conflict drains
-pub complete_at_end : (plan : Plan) (past : List Entry) → Stepped plan past → (phase past ≡ Draining → ⊥) → next_turn plan past ≡ None → IsComplete plan past
-complete_at_end plan past stepped free e = complete_by plan past (slice_get plan.lines (length past)) (propagator_event plan.change plan.strategy (phase past)) refl refl stepped free e
+pub complete_at_end : (plan : Plan) (past : List Entry) → Stepped plan past → next_turn plan past ≡ None → (phase past ≢ Draining) → IsComplete plan past
+complete_at_end plan past stepped e free = complete_by plan past (slice_get plan.lines (length past)) (propagator_event plan.change plan.strategy (phase past)) refl refl stepped free e

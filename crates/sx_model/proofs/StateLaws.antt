@@ -1,16 +1,15 @@
 -- What one more record does to the state of a key, and whose LSN a row has.
-use Rattle.std.proofs.Common.{◌≡◌, ◌≤◌, ◌<◌, ◌+◌, ◌==◌, ◌&&◌, ◌||◌, ℕ, zero, suc, Bool, true, false, List, [], ◌∷◌, length, Option, Some, None, refl, sym, ap, ◌∙◌, subst, arith, cond, if◌then◌else◌, option_map}
-use Rattle.std.proofs.lemmas.Bool.Decides.{nat_tests}
-use Rattle.sx_lists.specs.Places.{numbered}
+use Rattle.std.proofs.Common.{◌≡◌, ◌+◌, ℕ, true, false, List, ◌∷◌, length, Option, None, refl}
 use Rattle.sx_values.specs.declared.value.Value.{Value}
 use Rattle.sx_values.specs.Names.{same_name}
-use Rattle.sx_values.specs.Values.{values_cmp, values_eq}
-use Rattle.sx_values.proofs.KeyLaws.{values_tie, values_cmp-refl, same_name-refl}
+use Rattle.sx_values.specs.Values.{values_eq}
+use Rattle.sx_values.proofs.KeyLaws.{values_cmp-refl, same_name-refl}
 use Rattle.sx_log.specs.declared.record.Rec.{Rec}
 use Rattle.sx_log.specs.declared.record.Body.{Body}
 use Rattle.sx_log.specs.declared.record.Body.TheVariants.{Write, Undo, Commit, Abort, Mark, Check, Switch}
-use Rattle.sx_log.specs.State.{Stored, stored, is_place, after_body, state_at, row_left}
+use Rattle.sx_log.specs.State.{Stored, stored, is_place, after_body, state_at}
 use Rattle.sx_model.specs.Scans.{is_about}
+use Rattle.sx_model.proofs.TestLaws.{chosen, passed, and_false_first, and_false_second, and_both}
 
 -- the image that a body has after it, where it has images
 abbrev pub image_of : Body → Option (List Value)
@@ -21,14 +20,6 @@ image_of Abort = None
 image_of Mark = None
 image_of (Check group dep) = None
 image_of Switch = None
-
-pub chosen : {T : Type 0} (b : Bool) (x y : T) → b ≡ true → (if b then x else y) ≡ x
-chosen true x y e = refl
-chosen false x y e = absurd (cc)
-
-pub passed : {T : Type 0} (b : Bool) (x y : T) → b ≡ false → (if b then x else y) ≡ y
-passed true x y e = absurd (cc)
-passed false x y e = refl
 
 -- a body that isn't about a key leaves it
 pub after_elsewhere : (lsn : ℕ) (body : Body) (table : List ℕ) (key : List Value) (earlier : Option Stored) → is_about body table key ≡ false → after_body lsn body table key earlier ≡ earlier
@@ -73,24 +64,6 @@ pub state_at-switch : (txn : ℕ) (log : List Rec) (table : List ℕ) (key : Lis
 unfolding after_body
 state_at-switch txn log table key = refl
 
-pub and_false_first : (a b : Bool) → a ≡ false → (a && b) ≡ false
-and_false_first a b e = rw e refl
-
-pub and_false_second : (a b : Bool) → b ≡ false → (a && b) ≡ false
-and_false_second true b e = e
-and_false_second false b e = refl
-
-pub and_both : (a b : Bool) → a ≡ true → b ≡ true → (a && b) ≡ true
-and_both a b d e = rw d e
-
-pub and_second : (a b : Bool) → (a && b) ≡ true → b ≡ true
-and_second true b e = e
-and_second false b e = absurd (cc)
-
-pub or_rest : (a b : Bool) → a ≡ false → (a || b) ≡ true → b ≡ true
-or_rest true b d e = absurd (cc)
-or_rest false b d e = e
-
 -- a Write leaves the keys of other tables
 pub state_at-other_table : (txn : ℕ) (written : List ℕ) (at : List Value) (before after : Option (List Value)) (log : List Rec) (table : List ℕ) (key : List Value) → same_name written table ≡ false → state_at (record { txn = txn; body = Write written at before after } ∷ log) table key ≡ state_at log table key
 unfolding after_body
@@ -115,8 +88,3 @@ values_eq-refl key = rw (values_cmp-refl key) refl
 -- so it sets its own key
 pub state_at-own : (txn : ℕ) (table : List ℕ) (key : List Value) (before after : Option (List Value)) (log : List Rec) → state_at (record { txn = txn; body = Write table key before after } ∷ log) table key ≡ stored (length log + 1) after
 state_at-own txn table key before after log = state_at-written txn table key before after log table key (same_name-refl table) (values_eq-refl key)
-
--- a test passes or it doesn't
-pub by_cases : {P : Type 0} (b : Bool) → (b ≡ true → P) → (b ≡ false → P) → P
-by_cases true passing failing = passing refl
-by_cases false passing failing = failing refl

@@ -1,5 +1,5 @@
 -- The requests that clients make at this stage.
-use Rattle.std.specs.Prelude.{⊤, ℕ}
+use Rattle.std.specs.Prelude.{⊤}
 use Rattle.sx_journal.specs.declared.entry.Request.{Request}
 use Rattle.sx_journal.specs.declared.entry.Request.TheVariants.{Begin, Read, Insert, Update, Delete, Commit, Undo}
 

@@ -1,5 +1,5 @@
 -- What a reply does, in short: every word about journals goes by this summary.
-use Rattle.std.specs.Prelude.{Bool, true, false, ℕ, List}
+use Rattle.std.specs.Prelude.{Bool, ℕ, List}
 use Rattle.sx_journal.specs.declared.entry.Reply.{Reply}
 use Rattle.sx_journal.specs.declared.entry.Reply.TheVariants as reply
 

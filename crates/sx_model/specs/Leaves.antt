@@ -1,5 +1,5 @@
 -- What a journal leaves: who lives, and how far a transformation has come. A journal is seen newest first.
-use Rattle.std.specs.Prelude.{◌+◌, ◌==◌, ◌++◌, not, Bool, true, false, ℕ, List, [], ◌∷◌, filter, Option, Some, None, if◌then◌else◌}
+use Rattle.std.specs.Prelude.{◌+◌, ◌==◌, not, Bool, true, false, ℕ, List, [], ◌∷◌, filter, Option, Some, None, if◌then◌else◌}
 use Rattle.sx_ops.specs.declared.spec.Spec.{Spec}
 use Rattle.sx_sync.specs.declared.Strategy.{Strategy}
 use Rattle.sx_sync.specs.declared.Strategy.TheVariants.{Blocking, NonBlockingAbort, NonBlockingCommit}
@@ -8,7 +8,7 @@ use Rattle.sx_sync.specs.declared.Phase.TheVariants.{Idle, Scanning, Chasing, Dr
 use Rattle.sx_journal.specs.declared.entry.Entry.{Entry}
 use Rattle.sx_journal.specs.declared.entry.Event.{Event}
 use Rattle.sx_journal.specs.declared.entry.Event.TheVariants as event
-use Rattle.sx_model.specs.Effects.{Effect, Nothing, Reads, Begins, Writes, Undoes, Commits, Aborts, Starts, Sees, Fetches, Checks, Conflicts, Violates, Switches, Cancels, effect}
+use Rattle.sx_model.specs.Effects.{Effect, Begins, Commits, Aborts, Starts, Sees, Conflicts, Violates, Switches, Cancels, effect}
 
 -- a client with its live transaction
 pub record Living : Type 0 where

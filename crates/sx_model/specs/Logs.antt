@@ -11,7 +11,7 @@ use Rattle.sx_journal.specs.declared.entry.Event.{Event}
 use Rattle.sx_journal.specs.declared.entry.Event.TheVariants as event
 use Rattle.sx_journal.specs.declared.entry.Request.{Request}
 use Rattle.sx_journal.specs.declared.entry.Request.TheVariants as request
-use Rattle.sx_model.specs.Effects.{Effect, Nothing, Reads, Begins, Writes, Undoes, Commits, Aborts, Starts, Sees, Fetches, Checks, Conflicts, Violates, Switches, Cancels, effect}
+use Rattle.sx_model.specs.Effects.{Effect, Writes, Commits, Aborts, Starts, Switches, effect}
 use Rattle.sx_model.specs.Openings.{Opening, key_in}
 use Rattle.sx_model.specs.Leaves.{txn_of}
 

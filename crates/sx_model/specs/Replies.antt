@@ -1,5 +1,5 @@
 -- The answers to a client's requests and to a start.
-use Rattle.std.specs.Prelude.{◌≡◌, ◌+◌, Bool, true, false, ℕ, List, [], ◌∷◌, is_some, Option, Some, None, if◌then◌else◌}
+use Rattle.std.specs.Prelude.{◌+◌, ℕ, List, Option, Some, None}
 use Rattle.sx_values.specs.declared.value.Value.{Value}
 use Rattle.sx_values.specs.declared.schema.BadRow.{BadRow}
 use Rattle.sx_values.specs.Layouts.{Layout, row_fault, key_fault, key_of}

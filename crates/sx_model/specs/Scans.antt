@@ -1,18 +1,18 @@
 -- What a scan without locks has seen, and which scan turns are allowed.
-use Rattle.std.specs.Prelude.{◌≡◌, ◌≢◌, ◌≤◌, ◌<◌, ◌+◌, ◌-◌, ◌==◌, ◌&&◌, ◌++◌, ◌⊎◌, ⊤, Bool, true, false, not, IsTrue, ℕ, zero, suc, List, [], ◌∷◌, length, Option, Some, None, nat_eq, nat_lt, slice_get, if◌then◌else◌, drop}
+use Rattle.std.specs.Prelude.{◌≡◌, ◌≤◌, ◌<◌, ◌+◌, ◌-◌, ◌&&◌, ◌++◌, ◌⊎◌, Bool, false, not, IsTrue, ℕ, List, [], ◌∷◌, length, Option, Some, None, nat_eq, slice_get, if◌then◌else◌, drop}
 use Rattle.std.specs.List.{list_any, IsDistinct, AllByRecursion}
 use Rattle.sx_values.specs.declared.value.Value.{Value}
 use Rattle.sx_log.specs.declared.record.Rec.{Rec}
 use Rattle.sx_log.specs.declared.record.Body.{Body}
 use Rattle.sx_log.specs.declared.record.Body.TheVariants.{Write, Undo, Commit, Abort, Mark, Check, Switch}
-use Rattle.sx_log.specs.State.{Stored, stored, is_place, state_at, after_body}
+use Rattle.sx_log.specs.State.{Stored, is_place, state_at, after_body}
 use Rattle.sx_ops.specs.Operators.{sources_of}
 use Rattle.sx_journal.specs.declared.entry.Entry.{Entry}
 use Rattle.sx_journal.specs.declared.entry.Event.{Event}
 use Rattle.sx_journal.specs.declared.entry.Event.TheVariants as event
 use Rattle.sx_journal.specs.declared.entry.Reply.{Reply}
 use Rattle.sx_journal.specs.declared.entry.Reply.TheVariants as reply
-use Rattle.sx_model.specs.Effects.{Effect, Nothing, Reads, Begins, Writes, Undoes, Commits, Aborts, Starts, Sees, Fetches, Checks, Conflicts, Violates, Switches, Cancels, effect}
+use Rattle.sx_model.specs.Effects.{Effect, Starts, Sees, effect}
 use Rattle.sx_sync.specs.declared.Phase.TheVariants.{Scanning}
 use Rattle.sx_model.specs.Openings.{Opening}
 use Rattle.sx_model.specs.Leaves.{Started, started, phase}

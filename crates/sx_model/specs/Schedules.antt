@@ -1,5 +1,5 @@
 -- What a script asks of a journal.
-use Rattle.std.specs.Prelude.{◌≡◌, ◌+◌, ◌==◌, ⊤, ℕ, List, [], ◌∷◌, length, filter, slice_get, Option, Some, None, option_map, MatchOption}
+use Rattle.std.specs.Prelude.{◌≡◌, ◌==◌, ⊤, ℕ, List, [], ◌∷◌, length, filter, slice_get, Option, Some, None, option_map, MatchOption}
 use Rattle.sx_values.specs.declared.catalog.Declared.{Declared}
 use Rattle.sx_log.specs.declared.record.Load.{Load}
 use Rattle.sx_ops.specs.declared.spec.Spec.{Spec}
@@ -8,7 +8,7 @@ use Rattle.sx_sync.specs.declared.Phase.{Phase}
 use Rattle.sx_sync.specs.declared.Phase.TheVariants.{Idle, Scanning, Chasing, Draining, Late, Done}
 use Rattle.sx_journal.specs.declared.entry.Entry.{Entry}
 use Rattle.sx_journal.specs.declared.entry.Event.{Event}
-use Rattle.sx_journal.specs.declared.entry.Event.TheVariants.{Client, Start, Scan, Fetch, Check, Switch, Cancel}
+use Rattle.sx_journal.specs.declared.entry.Event.TheVariants.{Client, Start, Scan, Switch}
 use Rattle.sx_journal.specs.declared.entry.Request.{Request}
 use Rattle.sx_model.specs.Openings.{Opening, opening}
 use Rattle.sx_model.specs.Leaves.{phase}

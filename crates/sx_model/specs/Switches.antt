@@ -1,5 +1,5 @@
 -- The answers to an attempt to switch.
-use Rattle.std.specs.Prelude.{◌≡◌, ◌+◌, ◌-◌, ◌==◌, ◌&&◌, ◌||◌, Bool, true, false, ℕ, List, [], ◌∷◌, length, map, filter, min, nat_lt, Option, Some, None, if◌then◌else◌}
+use Rattle.std.specs.Prelude.{◌-◌, ◌==◌, ◌&&◌, ◌||◌, Bool, true, false, ℕ, List, [], ◌∷◌, length, map, filter, min, nat_lt, Option, Some, None, if◌then◌else◌}
 use Rattle.sx_values.specs.Names.{has_name}
 use Rattle.sx_log.specs.declared.record.Rec.{Rec}
 use Rattle.sx_log.specs.declared.record.Body.{Body}
@@ -16,7 +16,7 @@ use Rattle.sx_journal.specs.declared.entry.Request.{Request}
 use Rattle.sx_journal.specs.declared.entry.Request.TheVariants as request
 use Rattle.sx_journal.specs.declared.entry.Reply.{Reply}
 use Rattle.sx_journal.specs.declared.entry.Reply.TheVariants as reply
-use Rattle.sx_model.specs.Effects.{Effect, Nothing, Reads, Begins, Writes, Undoes, Commits, Aborts, Starts, Sees, Fetches, Checks, Conflicts, Violates, Switches, Cancels, effect}
+use Rattle.sx_model.specs.Effects.{Effect, Reads, Begins, Writes, Starts, Fetches, Violates, effect}
 use Rattle.sx_model.specs.Openings.{Opening}
 use Rattle.sx_model.specs.Leaves.{Living, living, Started, started, is_blocking, phase}
 use Rattle.sx_model.specs.Logs.{log_of, next_lsn}
@@ -59,7 +59,7 @@ abbrev pub has_lock_on : List (List ℕ) → ℕ → List Entry → Bool
 has_lock_on tables client [] = false
 has_lock_on tables client (e ∷ past) =
     if e.actor == client then
-        (if begins (effect e.reply) then false else (takes_lock (effect e.reply) && event_names tables e.event) || has_lock_on tables client past)
+    (if begins (effect e.reply) then false else (takes_lock (effect e.reply) && event_names tables e.event) || has_lock_on tables client past)
     else has_lock_on tables client past
 
 unfoldable pub is_on : List (List ℕ) → Body → Bool
