@@ -1,2 +1,4 @@
 pub mod KeyLaws
+pub mod ListLaws
+pub mod SchemaLaws
 pub mod TextLaws

@@ -2,7 +2,10 @@
 #![tactic(auto)]
 
 mod catalog;
+mod checks;
+mod faults;
 mod name;
+mod plain;
 mod row;
 mod schema;
 mod text;
