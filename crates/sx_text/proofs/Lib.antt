@@ -1,2 +1,4 @@
+pub mod FieldLaws
 pub mod NumberLaws
+pub mod PlainLaws
 pub mod WordLaws

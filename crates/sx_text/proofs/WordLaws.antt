@@ -1,5 +1,5 @@
 -- Where a line is parted.
-use Rattle.std.proofs.Common.{◌≡◌, ◌≤◌, ◌+◌, ◌==◌, ℕ, suc, Bool, true, false, not, cond, nat_lt, List, [], ◌∷◌, length, Some, None, refl, sym, ap, ◌∙◌, arith, position, take, drop}
+use Rattle.std.proofs.Common.{◌≡◌, ◌≤◌, ◌<◌, ◌+◌, ◌==◌, ℕ, suc, Bool, true, false, not, cond, nat_lt, List, [], ◌∷◌, length, Some, None, refl, sym, ap, ◌∙◌, arith, position, take, drop}
 use Rattle.std.specs.List.{prefix_len}
 use Rattle.std.proofs.lemmas.Bool.Decides.{nat_tests}
 use Rattle.std.proofs.lemmas.List.{take_all, drop-drop}
@@ -8,14 +8,14 @@ use Rattle.std.proofs.Math.ListN.{drop_of_length-le}
 use Rattle.sx_text.specs.Words.{before, behind}
 
 -- how many bytes stand before the first mark
-abbrev place : ℕ → List ℕ → ℕ
+abbrev pub place : ℕ → List ℕ → ℕ
 place mark xs = prefix_len (λ b. not (b == mark)) xs
 
 front_step : (t : Bool) (b n : ℕ) (rest front : List ℕ) → take n rest ≡ front → take (cond (not t) (1 + n) 0) (b ∷ rest) ≡ cond t [] (b ∷ front)
 front_step true b n rest front e = refl
 front_step false b n rest front e = let one : 1 + n ≡ suc n = omega arith in rw one (ap (λ l. b ∷ l) e)
 
-take_place : (mark : ℕ) (xs : List ℕ) → take (place mark xs) xs ≡ before mark xs
+pub take_place : (mark : ℕ) (xs : List ℕ) → take (place mark xs) xs ≡ before mark xs
 take_place mark [] = refl
 take_place mark (b ∷ rest) = front_step (b == mark) b (place mark rest) rest (before mark rest) (take_place mark rest)
 
@@ -23,18 +23,18 @@ back_step : (t : Bool) (b n : ℕ) (rest back : List ℕ) → drop (suc n) rest 
 back_step true b n rest back e = refl
 back_step false b n rest back e = let one : 1 + n ≡ suc n = omega arith in rw one e
 
-drop_place : (mark : ℕ) (xs : List ℕ) → drop (suc (place mark xs)) xs ≡ behind mark xs
+pub drop_place : (mark : ℕ) (xs : List ℕ) → drop (suc (place mark xs)) xs ≡ behind mark xs
 drop_place mark [] = refl
 drop_place mark (b ∷ rest) = back_step (b == mark) b (place mark rest) rest (behind mark rest) (drop_place mark rest)
 
-some_place : (a b k : ℕ) → cond (nat_lt a b) (Some a) None ≡ Some k → a ≡ k
+pub some_place : (a b k : ℕ) → cond (nat_lt a b) (Some a) None ≡ Some k → a ≡ k
 some_place a b k e = by (nat_lt a b) e
   where
     by : (t : Bool) → cond t (Some a) None ≡ Some k → a ≡ k
     by true f = cc
     by false f = absurd (cc)
 
-no_place : (a b : ℕ) → cond (nat_lt a b) (Some a) None ≡ None → b ≤ a
+pub no_place : (a b : ℕ) → cond (nat_lt a b) (Some a) None ≡ None → b ≤ a
 no_place a b e = by (nat_lt a b) refl e
   where
     by : (t : Bool) → nat_lt a b ≡ t → cond t (Some a) None ≡ None → b ≤ a
@@ -65,3 +65,15 @@ whole_line mark xs e =
       front = sym (take_all (place mark xs) xs long) ∙ take_place mark xs;
       back = drop-length xs ∙ sym (drop_of_length-le xs past) ∙ drop_place mark xs;
     }
+
+-- a mark that was found stands within the line
+pub placed : (mark : ℕ) (xs : List ℕ) (k : ℕ) → position (λ b. b == mark) xs ≡ Some k → place mark xs < length xs
+placed mark xs k e = by (nat_lt (place mark xs) (length xs)) refl e
+  where
+    by : (t : Bool) → nat_lt (place mark xs) (length xs) ≡ t → cond t (Some (place mark xs)) None ≡ Some k → place mark xs < length xs
+    by true d f = grind (arith, nat_tests)
+    by false d f = absurd (cc)
+
+-- one that wasn't found doesn't
+pub unplaced : (mark : ℕ) (xs : List ℕ) → position (λ b. b == mark) xs ≡ None → length xs ≤ place mark xs
+unplaced mark xs e = no_place (place mark xs) (length xs) e

@@ -22,20 +22,17 @@ plain_value kind.Text field = if is_text field then Some (Text field) else None
 abbrev pub value_of : Kind → List ℕ → Option Value
 value_of kind field = if pointwise ◌==◌ field null_word then Some Null else plain_value kind field
 
--- a value before those that were read behind it
-abbrev pub with_value : Value → Result (List Value) FieldFault → Result (List Value) FieldFault
-with_value value (Ok values) = Ok (value ∷ values)
-with_value value (Err fault) = Err fault
+-- a column's value before those behind it; a column that has none is at fault
+abbrev pub value_before : ℕ → Option Value → Result (List Value) FieldFault → Result (List Value) FieldFault
+value_before number None behind = Err (fault.Value number)
+value_before number (Some value) (Ok values) = Ok (value ∷ values)
+value_before number (Some value) (Err fault) = Err fault
 
--- the values that fields show in columns of these kinds, the first of which has this number; a fault is the first one
+-- the values that fields show in columns of these kinds, the first of which has this number; the first fault counts
 abbrev pub values_from : ℕ → List Kind → List (List ℕ) → Result (List Value) FieldFault
 values_from number [] fields = Ok []
 values_from number (kind ∷ kinds) [] = Ok []
-values_from number (kind ∷ kinds) (field ∷ fields) = value_then number (value_of kind field) (values_from (number + 1) kinds fields)
-  where
-    value_then : ℕ → Option Value → Result (List Value) FieldFault → Result (List Value) FieldFault
-    value_then number None behind = Err (fault.Value number)
-    value_then number (Some value) behind = with_value value behind
+values_from number (kind ∷ kinds) (field ∷ fields) = value_before number (value_of kind field) (values_from (number + 1) kinds fields)
 
 -- the values of a record's fields: as many as columns, each of its column's kind
 abbrev pub fields_read : List Kind → List (List ℕ) → Result (List Value) FieldFault

@@ -17,8 +17,7 @@ fields_given (Some given) = given.0
 
 -- the fields of a text's one record, as csv's reader gives it without a header; an empty text has none
 abbrev pub record_fields : List ℕ → List (List ℕ)
-record_fields [] = []
-record_fields (b ∷ rest) = fields_given (next_record default_config st.StartRecord [] [] (b ∷ rest))
+record_fields text = fields_given (next_record default_config st.StartRecord [] [] text)
 
 -- a record of these fields, as csv's writer writes it, without the line's end
 abbrev pub record_of : List (List ℕ) → List ℕ
