@@ -10,4 +10,4 @@ mod same;
 pub use copies::{Copied, copies_of};
 pub use lists::List;
 pub use reserved::Reserved;
-pub use same::Same;
+pub use same::{Same, all_same};

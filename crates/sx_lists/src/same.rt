@@ -44,8 +44,8 @@ impl<T: Same> Same for Option<T> {
     }
 }
 
-// Whether two slices have the same items in the same order.
-fn all_same<T: Same>(ones: &[T], others: &[T]) -> bool
+/// Whether two slices have the same items in the same order.
+pub fn all_same<T: Same>(ones: &[T], others: &[T]) -> bool
     ensures { IsTrue result ↔ (ones.now ≡ others.now) }
 {
     match (ones, others) {

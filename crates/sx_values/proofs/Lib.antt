@@ -1,3 +1,4 @@
+pub mod CatalogLaws
 pub mod KeyLaws
 pub mod ListLaws
 pub mod SchemaLaws

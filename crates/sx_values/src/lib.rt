@@ -11,7 +11,7 @@ mod schema;
 mod text;
 mod value;
 
-pub use catalog::{CatalogFault, Declared};
+pub use catalog::{Catalog, CatalogFault, Declared};
 pub use name::{Name, NameFault};
 pub use row::{Key, Row};
 pub use schema::{BadRow, Column, Kind, Schema, SchemaFault};

@@ -1,9 +1,9 @@
 // Schemas, and the rows and keys that they admit.
-ghost use Rattle.std.specs.Prelude.{◌≡◌, ◌<◌, All, nat_eq, length, IfOk};
+ghost use Rattle.std.specs.Prelude.{◌≡◌, ◌<◌, All, nat_eq, length, IfOk, OnOk};
 ghost use Rattle.std.specs.List.{IsDistinct};
 ghost use Rattle.sx_lists.specs.Answers.{RefusesBy, unless};
 ghost use Rattle.sx_values.specs.Layouts.{Admits, AdmitsKey, row_fault, key_fault, key_of, projected, IsLayout};
-ghost use Rattle.sx_values.specs.SchemaFaults.{schema_fault, wide_fault};
+ghost use Rattle.sx_values.specs.SchemaFaults.{schema_fault, wide_fault, IsDeclarable};
 
 use crate::checks::{checked_columns, checked_key, nullable_fault};
 use crate::faults::{are_null, are_null_at, first_fault, first_key_fault};
@@ -79,6 +79,7 @@ impl Schema {
         requires distinct { IsDistinct nat_eq key }
         ensures schema { IfOk result (λ schema. schema ≡ record { columns = columns; key = key }) }
         ensures fault { RefusesBy (schema_fault columns key) SchemaFault.Memory result }
+        ensures declarable { IfOk result IsDeclarable }
     {
         let columns = checked_columns(columns, 16)?;
         let key = checked_key(key, 3)?;
@@ -118,7 +119,8 @@ impl Schema {
 
     /// Whether the table takes a row; else the row's first fault.
     pub fn admits(&self, row: &Row) -> Result<(), BadRow>
-        ensures { result ≡ unless (row_fault self.now row.now) tt }
+        ensures fault { result ≡ unless (row_fault self.now row.now) tt }
+        ensures admitted { OnOk result (Admits self.now row.now) }
     {
         let (columns, values) = (self.columns.as_slice(), row.as_slice());
         if values.len() != columns.len() {
@@ -134,7 +136,8 @@ impl Schema {
     /// Whether the table's rows may have a key; else the key's first fault.
     #[tactic(auto, using(crate::proofs::SchemaLaws::length_columns_at))]
     pub fn admits_key(&self, key: &Key) -> Result<(), BadRow>
-        ensures { result ≡ unless (key_fault self.now key.now) tt }
+        ensures fault { result ≡ unless (key_fault self.now key.now) tt }
+        ensures admitted { OnOk result (AdmitsKey self.now key.now) }
     {
         let (places, values) = (self.key.as_slice(), key.as_slice());
         if values.len() != places.len() {
