@@ -124,8 +124,8 @@ all_fields_printable (value ∷ values) e =
     (field_printable value p.0, all_fields_printable values p.1)
 
 -- the record that shows values is printable
-pub printable-record_text : (values : List Value) → are_values values ≡ true → list_all is_printable (record_text values) ≡ true
-printable-record_text values e = record_printable (map field_of values) (all_fields_printable values e)
+pub printable_record_text : (values : List Value) → are_values values ≡ true → list_all is_printable (record_text values) ≡ true
+printable_record_text values e = record_printable (map field_of values) (all_fields_printable values e)
 
 inner : (b : ℕ) → is_printable b ≡ true → Inner b
 inner b e =
@@ -198,7 +198,7 @@ faultless columns values key e = by (length values == length columns) refl e
 fields_read-fields : (columns : List Column) (values : List Value) → are_values values ≡ true → Faultless columns values → fields_read (kinds_of columns) (map field_of values) ≡ Ok values
 fields_read-fields columns values e f =
     let width : (length (map field_of values) == length (kinds_of columns)) ≡ true =
-        eq-eqb (length (map field_of values)) (length (kinds_of columns)) (length-map values field_of ∙ f.width ∙ sym (length-map columns (λ (c : Column). c.kind))) in
+    eq-eqb (length (map field_of values)) (length (kinds_of columns)) (length-map values field_of ∙ f.width ∙ sym (length-map columns (λ (c : Column). c.kind))) in
     rw width (values_from-fields 1 columns values f.width e f.each)
 
 -- values that columns take are read from the record that shows them
@@ -207,7 +207,7 @@ read_back : (columns : List Column) (values key : List Value) → 0 < length col
 read_back columns [] key some e fault = absurd (let f = faultless columns [] key fault in let w = f.width in omega arith)
 read_back columns (value ∷ values) key some e fault =
     let f = faultless columns (value ∷ values) key fault in
-    let whole = record_fields-record_of (field_of value) (map field_of values) (all_inner (record_text (value ∷ values)) (printable-record_text (value ∷ values) e)) in
+    let whole = record_fields-record_of (field_of value) (map field_of values) (all_inner (record_text (value ∷ values)) (printable_record_text (value ∷ values) e)) in
     ap (fields_read (kinds_of columns)) whole ∙ fields_read-fields columns (value ∷ values) e f
 
 pub row_read-record_text : (layout : Layout) (row : List Value) → IsLayout layout → are_values row ≡ true → Admits layout row → row_read layout (record_text row) ≡ Ok row

@@ -17,3 +17,6 @@ pub use number::{int_of, number_of};
 pub use printing::{put_record, text_of, text_of_key};
 pub use reader::Reader;
 pub use reading::{key_of_text, row_of};
+
+#[cfg(test)]
+mod tests;

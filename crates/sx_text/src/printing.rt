@@ -1,7 +1,9 @@
 // Rows and keys as CSV records.
 ghost use Rattle.std.specs.Prelude.{◌≡◌, ◌++◌, ◌∷◌, [], IfOk, IsTrue, OnErr, OnOk, map};
+ghost use Rattle.std.specs.List.{list_all};
 ghost use Rattle.csv.specs.Records.{fields_of, partial_of};
 ghost use Rattle.csv.specs.Writing.{default_writer, row_text};
+ghost use Rattle.sx_values.specs.Texts.{is_printable};
 ghost use Rattle.sx_text.specs.Records.{are_values, field_of, is_value, record_of, record_text};
 
 use csv::{ByteRecord, WriterBuilder};
@@ -13,6 +15,7 @@ use sx_values::{Key, Row, Value};
 /// The CSV record that shows a row, without a line's end.
 pub fn text_of(alloc: Global, row: &Row) -> Result<List<u8>, AllocError>
     ensures text { IfOk result (λ text. text ≡ record_text row.now) }
+    ensures printable { IfOk result (λ text. IsTrue (list_all is_printable text)) }
     ensures values { OnOk result (IsTrue (are_values row.now)) }
 {
     text_of_values(alloc, row.as_slice())
@@ -21,6 +24,7 @@ pub fn text_of(alloc: Global, row: &Row) -> Result<List<u8>, AllocError>
 /// The CSV record that shows a key, without a line's end.
 pub fn text_of_key(alloc: Global, key: &Key) -> Result<List<u8>, AllocError>
     ensures text { IfOk result (λ text. text ≡ record_text key.now) }
+    ensures printable { IfOk result (λ text. IsTrue (list_all is_printable text)) }
     ensures values { OnOk result (IsTrue (are_values key.now)) }
 {
     text_of_values(alloc, key.as_slice())
@@ -37,8 +41,10 @@ pub fn put_record(alloc: Global, out: &mut Vec<u8>, values: &[Value]) -> Result<
     out.extend_from_slice(text.as_slice())
 }
 
+#[tactic(auto, using(crate::proofs::ReadBackLaws::printable_record_text))]
 fn text_of_values(alloc: Global, values: &[Value]) -> Result<List<u8>, AllocError>
     ensures text { IfOk result (λ text. text ≡ record_text values.now) }
+    ensures printable { IfOk result (λ text. IsTrue (list_all is_printable text)) }
     ensures values { OnOk result (IsTrue (are_values values.now)) }
 {
     let record = record_of_values(alloc, values)?;
