@@ -1,7 +1,7 @@
 // Copies of entries and their parts.
 ghost use Rattle.std.specs.Prelude.{◌≡◌, IfOk};
 
-use crate::{Entry, Event, Reply, Request};
+use crate::{Entry, Event, Reply, Request, What};
 use std::alloc::{AllocError, Global};
 use sx_lists::Copied;
 
@@ -15,6 +15,15 @@ impl Copied for Request {
             Request::Delete { table, key } => Ok(Request::Delete { table: table.copy(alloc)?, key: key.copy(alloc)? }),
             Request::Commit => Ok(Request::Commit),
             Request::Undo => Ok(Request::Undo),
+        }
+    }
+}
+
+impl Copied for What {
+    fn copy(&self, alloc: Global) -> Result<Self, AllocError> {
+        match self {
+            What::Ask(request) => Ok(What::Ask(request.copy(alloc)?)),
+            What::Abort => Ok(What::Abort),
         }
     }
 }

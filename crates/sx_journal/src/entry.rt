@@ -17,6 +17,13 @@ pub enum Request {
     Undo,
 }
 
+/// What a client's line asks: one request, or Undo until the transaction has ended.
+#[derive(Debug, Drop)]
+pub enum What {
+    Ask(Request),
+    Abort,
+}
+
 /// One turn of the machine.
 #[derive(Debug, Drop)]
 pub enum Event {

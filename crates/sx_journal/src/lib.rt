@@ -4,7 +4,7 @@
 mod copies;
 mod entry;
 
-pub use entry::{Entry, Event, Reply, Request};
+pub use entry::{Entry, Event, Reply, Request, What};
 
 use sx_lists::Reserved;
 

@@ -1,11 +1,11 @@
 -- Which transformations fit a catalog, and why one doesn't.
-use Rattle.std.specs.Prelude.{◌≡◌, ◌≤◌, ◌+◌, ◌||◌, ⊤, Bool, true, false, not, IsTrue, ℕ, List, [], ◌∷◌, length, is_some, Option, Some, None, if◌then◌else◌}
+use Rattle.std.specs.Prelude.{◌≤◌, ◌+◌, ◌||◌, ⊤, Bool, false, not, IsTrue, ℕ, List, [], ◌∷◌, length, is_some, Option, Some, None, if◌then◌else◌}
 use Rattle.std.specs.List.{list_any}
 use Rattle.sx_lists.specs.Answers.{or_later}
 use Rattle.sx_values.specs.Names.{same_name, has_name}
-use Rattle.sx_values.specs.Layouts.{is_int, is_null}
+use Rattle.sx_values.specs.Layouts.{Layout, is_int, is_null}
 use Rattle.sx_values.specs.SchemaFaults.{names_of}
-use Rattle.sx_values.specs.Catalogs.{declared_as}
+use Rattle.sx_values.specs.Catalogs.{schema_of}
 use Rattle.sx_values.specs.declared.value.Value.{Value}
 use Rattle.sx_values.specs.declared.value.Value.TheVariants as value
 use Rattle.sx_values.specs.declared.schema.Kind.{Kind}
@@ -60,7 +60,7 @@ types_fault place columns (test ∷ tests) = if fits_column columns test.column 
 
 -- whether a table of this name is declared
 abbrev pub is_declared : List Declared → List ℕ → Bool
-is_declared catalog name = is_some (declared_as catalog name)
+is_declared catalog name = is_some (schema_of catalog name)
 
 -- the first new name that is taken
 abbrev pub names_fault : List Declared → List ℕ → List ℕ → Option SpecFault
@@ -69,15 +69,15 @@ names_fault catalog passing failing =
     else if is_declared catalog failing || same_name passing failing then Some (fault.NameTaken failing)
     else None
 
--- the first fault of a horizontal split of the table that the catalog has under its source's name
-abbrev pub part_fault : List Declared → Option Declared → List ℕ → List Test → List ℕ → List ℕ → Option SpecFault
+-- the first fault of a horizontal split, by the schema that the catalog has under its source's name
+abbrev pub part_fault : List Declared → Option Layout → List ℕ → List Test → List ℕ → List ℕ → Option SpecFault
 part_fault catalog None table tests passing failing = Some (fault.NoTable table)
 part_fault catalog (Some source) table tests passing failing =
-    or_later (column_fault source.schema.columns tests) (or_later (types_fault 1 source.schema.columns tests) (names_fault catalog passing failing))
+    or_later (column_fault source.columns tests) (or_later (types_fault 1 source.columns tests) (names_fault catalog passing failing))
 
 -- the first fault of a transformation, in the order of the refusals; each other operator brings its own case
 abbrev pub spec_fault : List Declared → Spec → Option SpecFault
-spec_fault catalog (Part table tests passing failing) = part_fault catalog (declared_as catalog table) table tests passing failing
+spec_fault catalog (Part table tests passing failing) = part_fault catalog (schema_of catalog table) table tests passing failing
 spec_fault catalog (Join left right on_left on_right into) = None
 spec_fault catalog (Split table by dep rest dependent) = None
 spec_fault catalog (Union left right into) = None

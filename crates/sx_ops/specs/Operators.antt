@@ -1,12 +1,12 @@
 -- The operators over whole lists of rows.
-use Rattle.std.specs.Prelude.{not, Bool, false, ℕ, List, [], ◌∷◌, filter, if◌then◌else◌, Option, Some, None}
-use Rattle.std.specs.List.{list_all}
-use Rattle.std.specs.Ordering.{is_lt, is_le, is_eq, is_ne, is_gt, is_ge}
+use Rattle.std.specs.Prelude.{⊤, not, Bool, false, ℕ, List, [], ◌∷◌, map, filter, All, if◌then◌else◌, Option, Some, None, IfSome}
+use Rattle.std.specs.List.{list_all, IsDistinct}
+use Rattle.std.specs.Ordering.{is_lt, is_le, is_eq, is_gt, is_ge}
 use Rattle.std.specs.declared.cmp.Ordering.{Ordering}
 use Rattle.sx_values.specs.Names.{same_name}
-use Rattle.sx_values.specs.Values.{value_cmp}
-use Rattle.sx_values.specs.Layouts.{Layout, is_null}
-use Rattle.sx_values.specs.Catalogs.{declared_as}
+use Rattle.sx_values.specs.Values.{value_cmp, values_eq}
+use Rattle.sx_values.specs.Layouts.{Layout, Admits, key_of, is_null}
+use Rattle.sx_values.specs.Catalogs.{schema_of}
 use Rattle.sx_values.specs.declared.value.Value.{Value}
 use Rattle.sx_values.specs.declared.value.Value.TheVariants.{Null}
 use Rattle.sx_values.specs.declared.schema.Column.{Column}
@@ -67,13 +67,26 @@ abbrev pub split_rows : List Column → List Test → List (List (List Value)) �
 split_rows columns tests [] = []
 split_rows columns tests (rows ∷ others) = rows_passing columns tests rows ∷ rows_failing columns tests rows ∷ []
 
--- the columns of the table of this name; none where there is no such table
-abbrev pub columns_in : Option Declared → List Column
+-- the columns of a table that may be missing
+abbrev pub columns_in : Option Layout → List Column
 columns_in None = []
-columns_in (Some table) = table.schema.columns
+columns_in (Some schema) = schema.columns
 
+-- the columns of the table of this name; none where there is no such table
 abbrev pub columns_of : List Declared → List ℕ → List Column
-columns_of catalog name = columns_in (declared_as catalog name)
+columns_of catalog name = columns_in (schema_of catalog name)
+
+-- rows that a schema admits, no two of them with one key
+pub record AreRowsOf (schema : Layout) (rows : List (List Value)) : Type 0 where
+  pub admitted : All (Admits schema) rows
+  pub apart : IsDistinct values_eq (map (key_of schema) rows)
+
+-- for each of these tables, in order, a list of rows that its schema admits
+abbrev pub AreSourceRows : List Declared → List (List ℕ) → List (List (List Value)) → Type 0
+AreSourceRows catalog [] [] = ⊤
+AreSourceRows catalog (name ∷ names) (rows ∷ lists) = IfSome (schema_of catalog name) (λ schema. AreRowsOf schema rows) × AreSourceRows catalog names lists
+AreSourceRows catalog [] (rows ∷ lists) = ⊥
+AreSourceRows catalog (name ∷ names) [] = ⊥
 
 -- the rows of the new tables, from the rows of each source in key order; each other operator brings its own case
 abbrev pub operator : List Declared → Spec → List (List (List Value)) → List (List (List Value))

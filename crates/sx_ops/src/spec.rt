@@ -1,6 +1,12 @@
-// Transformations as plain data.
-use crate::Tests;
-use sx_values::{Name, Names, Value};
+// Transformations as plain data, and what they make of tables.
+ghost use Rattle.std.specs.Prelude.{◌≡◌, IfOk};
+ghost use Rattle.sx_ops.specs.Checks.{IsShaped, spec_fault};
+ghost use Rattle.sx_ops.specs.Operators.{AreSourceRows, columns_of, sources_of, operator};
+
+use crate::part::split_rows;
+use crate::{RowLists, Tests};
+use std::alloc::{AllocError, Global};
+use sx_values::{Catalog, Column, Name, Names, Value};
 
 /// A transformation: its sources, what decides, and its new tables.
 #[derive(Debug, Drop)]
@@ -77,4 +83,39 @@ pub enum SpecFault {
     NameTaken { name: Name },
     /// The table lacks the index that the transformation needs.
     NoIndex { table: Name },
+}
+
+impl Spec {
+    /// The rows of the new tables, in order, from the rows of each source: the slow and plain form.
+    pub fn transform(
+        &self,
+        alloc: Global,
+        catalog: &Catalog,
+        sources: &RowLists,
+    ) -> Result<RowLists, AllocError>
+        requires shaped { IsShaped self.now }
+        requires fits { spec_fault catalog.now self.now ≡ None }
+        requires rows { AreSourceRows catalog.now (sources_of self.now) sources.now }
+        ensures { IfOk result (λ tables. tables ≡ operator catalog.now self.now sources.now) }
+    {
+        match self {
+            Spec::Part { table, tests, .. } => split_rows(
+                alloc,
+                columns_of(catalog, table),
+                tests.as_slice(),
+                sources.as_slice(),
+            ),
+            Spec::Join { .. } | Spec::Split { .. } | Spec::Union { .. } => unreachable!(),
+        }
+    }
+}
+
+// The columns of the table of this name; none where there is no such table.
+fn columns_of<'a>(catalog: &'a Catalog, name: &Name) -> &'a [Column]
+    ensures { result.now ≡ columns_of catalog.now name.now }
+{
+    match catalog.schema(name) {
+        Some(schema) => schema.columns(),
+        None => &[],
+    }
 }

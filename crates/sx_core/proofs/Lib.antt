@@ -1,0 +1,7 @@
+pub mod KeptLemmas
+pub mod MeetLemmas
+pub mod ScanLemmas
+pub mod TableLemmas
+pub mod TransformLemmas
+pub mod TurnLemmas
+pub mod WriteLemmas

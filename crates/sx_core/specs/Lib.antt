@@ -1,0 +1,7 @@
+pub mod Changes
+pub mod Conflicts
+pub mod Kept
+pub mod Machines
+pub mod Meets
+pub mod Views
+pub mod Writes

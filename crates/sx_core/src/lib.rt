@@ -1,0 +1,9 @@
+//! The machine: it answers each event by the journal, and keeps the tables and the log that follow from it.
+#![tactic(auto)]
+
+mod found;
+mod machine;
+mod turns;
+
+pub use machine::{Core, CoreFault};
+pub use sx_log::{Load, Loads};

@@ -1,0 +1,5 @@
+pub mod EntryLemmas
+pub mod NameLemmas
+pub mod RowLemmas
+pub mod TurnLemmas
+pub mod WalkLemmas

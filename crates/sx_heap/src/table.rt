@@ -1,0 +1,179 @@
+// A table: its rows by key.
+ghost use Rattle.std.specs.Prelude.{◌≡◌, ◌==◌, [], None, length, option_map, take, drop, IfOk, OnOk, OnErr, IsSome};
+ghost use Rattle.sx_values.specs.Layouts.{Admits, key_of};
+ghost use Rattle.sx_heap.specs.Relations.{IsRelation, IsRowOf, SetsRow, row_at};
+ghost use Rattle.sx_heap.specs.Walks.{WalksOn};
+ghost use Rattle.sx_heap.specs.Entries.{seen_of, rows_of};
+
+use crate::{Cursor, Seen, Seens, Walked};
+use std::alloc::{AllocError, Global};
+use std::collections::BTreeMap;
+use std::collections::btree_map::Range;
+use std::marker::Model;
+use std::ops::Bound;
+use sx_lists::{Copied, List};
+use sx_values::{Key, Row, Schema};
+
+// A row, and the LSN of the record that put it there.
+#[derive(Drop)]
+struct Stamped {
+    row: Row,
+    lsn: u64,
+}
+
+/// The rows of a table, with their LSNs.
+#[derive(Drop)]
+pub struct Table {
+    schema: Schema,
+    rows: BTreeMap<Key, Stamped>,
+    alloc: Global,
+}
+
+impl Model for Table {
+    ghost use Rattle.sx_heap.specs.Relations.{Relation, IsRelation};
+
+    ghost Value = { Relation };
+
+    ghost use Rattle.sx_heap.specs.Entries.{rows_of};
+
+    ghost view = { λ t. record { schema = t.schema; rows = rows_of t.rows.entries } };
+
+    ghost invariant = { λ t. IsRelation (record { schema = t.schema; rows = rows_of t.rows.entries }) };
+}
+
+impl Table {
+    /// A table without rows.
+    pub fn new(alloc: Global, schema: Schema) -> Table
+        ensures schema { result.schema ≡ schema }
+        ensures empty { result.rows ≡ [] }
+    {
+        Table {
+            schema,
+            rows: BTreeMap::new(alloc),
+            alloc,
+        }
+    }
+
+    /// The schema that admits the rows.
+    pub fn schema(&self) -> &Schema
+        ensures schema { result.now ≡ self.now.schema }
+        ensures relation { IsRelation self.now }
+    {
+        &self.schema
+    }
+
+    /// How many rows there are.
+    pub fn len(&self) -> u64
+        ensures len { result ≡ length self.now.rows }
+        ensures relation { IsRelation self.now }
+    {
+        self.rows.len() as u64
+    }
+
+    /// Whether there is no row.
+    pub fn is_empty(&self) -> bool
+        ensures { result ≡ (length self.now.rows == 0) }
+    {
+        self.rows.is_empty()
+    }
+
+    /// The row of a key and its LSN, or None where the key is absent.
+    pub fn get(&self, key: &Key) -> Option<(&Row, u64)>
+        ensures found { option_map (λ found. (found.0.now, found.1)) result ≡ row_at self.now.rows key.now }
+        ensures relation { IsRelation self.now }
+    {
+        match self.rows.get(key) {
+            Some(stamped) => Some((&stamped.row, stamped.lsn)),
+            None => None,
+        }
+    }
+
+    /// Puts in a row whose key is absent. Want of memory changes nothing.
+    pub fn insert(&mut self, row: Row, lsn: u64) -> Result<(), AllocError>
+        requires admitted { Admits self.old.schema row }
+        requires absent { row_at self.old.rows (key_of self.old.schema row) ≡ None }
+        ensures ok { OnOk result (SetsRow self.old self.new (key_of self.old.schema row) (Some (row, lsn))) }
+        ensures err { OnErr result (self.new ≡ self.old) }
+    {
+        let key = self.schema.key_of(self.alloc, &row)?;
+        self.put(key, Stamped { row, lsn })
+    }
+
+    /// Puts a row in the place of that of its key. Want of memory changes nothing.
+    pub fn replace(&mut self, row: Row, lsn: u64) -> Result<(), AllocError>
+        requires admitted { Admits self.old.schema row }
+        requires there { IsSome (row_at self.old.rows (key_of self.old.schema row)) }
+        ensures ok { OnOk result (SetsRow self.old self.new (key_of self.old.schema row) (Some (row, lsn))) }
+        ensures err { OnErr result (self.new ≡ self.old) }
+    {
+        let key = self.schema.key_of(self.alloc, &row)?;
+        let newer = Stamped { row, lsn };
+        self.put(key, newer)
+    }
+
+    /// Takes out the row of a key. Want of memory changes nothing.
+    pub fn remove(&mut self, key: &Key) -> Result<(), AllocError>
+        requires { IsSome (row_at self.old.rows key.now) }
+        ensures ok { OnOk result (SetsRow self.old self.new key.now None) }
+        ensures err { OnErr result (self.new ≡ self.old) }
+    {
+        self.rows.remove(key);
+        Ok(())
+    }
+
+    /// The next `n` rows behind the cursor, in key order, or all of them where they are fewer.
+    pub fn walk(&self, alloc: Global, cursor: Cursor, n: u64) -> Result<Walked, AllocError>
+        ensures walked { IfOk result (WalksOn self.now.rows cursor n) }
+        ensures relation { IsRelation self.now }
+    {
+        let mut ahead = self.rows.range((cursor.bound(), Bound::Unbounded));
+        let seen = next_rows(alloc, &mut ahead, n)?;
+        let over = ahead.next().is_none();
+        let next = cursor.moved_past(alloc, seen.as_slice())?;
+        Ok(Walked { seen, next, over })
+    }
+
+    // Puts a row at its key.
+    fn put(&mut self, key: Key, stamped: Stamped) -> Result<(), AllocError>
+        requires { IsRowOf self.old.schema (seen_of (key, stamped)) }
+        ensures ok { OnOk result (SetsRow self.old self.new key (Some (stamped.row, stamped.lsn))) }
+        ensures err { OnErr result (self.new ≡ self.old) }
+    {
+        self.rows.insert(key, stamped)?;
+        Ok(())
+    }
+}
+
+impl Stamped {
+    // The row as it is seen at a key.
+    fn seen_at(&self, alloc: Global, key: &Key) -> Result<Seen, AllocError>
+        ensures { IfOk result (λ seen. seen ≡ seen_of (key.now, self.now)) }
+    {
+        let key = key.copy(alloc)?;
+        let row = self.row.copy(alloc)?;
+        Ok(Seen {
+            key,
+            row,
+            lsn: self.lsn,
+        })
+    }
+}
+
+// The next rows of those ahead, at most `n`.
+fn next_rows(
+    alloc: Global,
+    ahead: &mut Range<'_, Key, Stamped>,
+    n: u64,
+) -> Result<Seens, AllocError>
+    ensures seen { IfOk result (λ seen. seen ≡ rows_of (take n ahead.old)) }
+    ensures left { OnOk result (ahead.new ≡ drop n ahead.old) }
+{
+    let mut seen = List::new(alloc);
+    for _turn in 0..n {
+        match ahead.next() {
+            Some((key, stamped)) => seen.push(stamped.seen_at(alloc, key)?)?,
+            None => return Ok(seen),
+        }
+    }
+    Ok(seen)
+}

@@ -1,0 +1,33 @@
+-- Tests that pass or fail, alone and in pairs.
+use Rattle.std.proofs.Common.{◌≡◌, ◌&&◌, ◌||◌, Bool, true, false, refl, if◌then◌else◌}
+
+-- a test passes or it doesn't
+pub by_cases : {P : Type 0} (b : Bool) → (b ≡ true → P) → (b ≡ false → P) → P
+by_cases true passing failing = passing refl
+by_cases false passing failing = failing refl
+
+pub chosen : {T : Type 0} (b : Bool) (x y : T) → b ≡ true → (if b then x else y) ≡ x
+chosen true x y e = refl
+chosen false x y e = absurd (cc)
+
+pub passed : {T : Type 0} (b : Bool) (x y : T) → b ≡ false → (if b then x else y) ≡ y
+passed true x y e = absurd (cc)
+passed false x y e = refl
+
+pub and_false_first : (a b : Bool) → a ≡ false → (a && b) ≡ false
+and_false_first a b e = rw e refl
+
+pub and_false_second : (a b : Bool) → b ≡ false → (a && b) ≡ false
+and_false_second true b e = e
+and_false_second false b e = refl
+
+pub and_both : (a b : Bool) → a ≡ true → b ≡ true → (a && b) ≡ true
+and_both a b d e = rw d e
+
+pub and_second : (a b : Bool) → (a && b) ≡ true → b ≡ true
+and_second true b e = e
+and_second false b e = absurd (cc)
+
+pub or_rest : (a b : Bool) → a ≡ false → (a || b) ≡ true → b ≡ true
+or_rest true b d e = absurd (cc)
+or_rest false b d e = e

@@ -1,0 +1,13 @@
+pub mod Built
+pub mod Effects
+pub mod Leaves
+pub mod Legal
+pub mod LoadRecords
+pub mod Loads
+pub mod Logs
+pub mod Openings
+pub mod Replies
+pub mod Scans
+pub mod Schedules
+pub mod Switches
+pub mod Tables

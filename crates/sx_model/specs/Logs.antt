@@ -1,0 +1,58 @@
+-- The log that a journal makes. Both are seen newest first.
+use Rattle.std.specs.Prelude.{◌+◌, ◌++◌, ℕ, List, [], ◌∷◌, length, Option, Some, None, unwrap_or}
+use Rattle.std.specs.Option.{option_to_list}
+use Rattle.sx_values.specs.declared.value.Value.{Value}
+use Rattle.sx_values.specs.declared.catalog.Declared.{Declared}
+use Rattle.sx_log.specs.declared.record.Rec.{Rec}
+use Rattle.sx_log.specs.declared.record.Body.TheVariants as body
+use Rattle.sx_log.specs.State.{row_left}
+use Rattle.sx_journal.specs.declared.entry.Entry.{Entry}
+use Rattle.sx_journal.specs.declared.entry.Event.{Event}
+use Rattle.sx_journal.specs.declared.entry.Event.TheVariants as event
+use Rattle.sx_journal.specs.declared.entry.Request.{Request}
+use Rattle.sx_journal.specs.declared.entry.Request.TheVariants as request
+use Rattle.sx_model.specs.Effects.{Effect, Writes, Commits, Aborts, Starts, Switches, effect}
+use Rattle.sx_model.specs.Openings.{Opening, key_in}
+use Rattle.sx_model.specs.Leaves.{txn_of}
+
+-- the record of a write behind a log: the image before is the row that the key has now
+abbrev pub write_record : List Rec → ℕ → List ℕ → List Value → Option (List Value) → Rec
+write_record log txn table key after = record { txn = txn; body = body.Write table key (row_left log table key) after }
+
+-- the record of a request that was answered Done
+unfoldable pub request_record : List Declared → List Rec → ℕ → Request → Option Rec
+request_record catalog log txn (request.Insert table row) = Some (write_record log txn table (key_in catalog table row) (Some row))
+request_record catalog log txn (request.Update table row) = Some (write_record log txn table (key_in catalog table row) (Some row))
+request_record catalog log txn (request.Delete table key) = Some (write_record log txn table key None)
+request_record catalog log txn other = None
+
+-- the same of an event
+unfoldable pub event_record : List Declared → List Rec → ℕ → Event → Option Rec
+event_record catalog log txn (event.Client request) = request_record catalog log txn request
+event_record catalog log txn other = None
+
+-- the record that an event with this effect makes behind a log, for a transaction; Undo and Check records come with their requests
+abbrev pub effect_record : List Declared → List Rec → ℕ → Event → Effect → Option Rec
+effect_record catalog log txn asked Writes = event_record catalog log txn asked
+effect_record catalog log txn asked Commits = Some (record { txn = txn; body = body.Commit })
+effect_record catalog log txn asked Aborts = Some (record { txn = txn; body = body.Abort })
+effect_record catalog log txn asked (Starts mark) = Some (record { txn = 0; body = body.Mark })
+effect_record catalog log txn asked Switches = Some (record { txn = 0; body = body.Switch })
+effect_record catalog log txn asked other = None
+
+-- the record that an entry makes, from the entries before it and the log that they made
+abbrev pub entry_record : Opening → List Entry → List Rec → Entry → Option Rec
+entry_record o past log e = effect_record o.catalog log (unwrap_or (txn_of past e.actor) 0) e.event (effect e.reply)
+
+-- the log: the records of the loaded rows, and then one for each reply that makes one
+abbrev pub log_of : Opening → List Entry → List Rec
+log_of o [] = o.loads
+log_of o (e ∷ past) = option_to_list (entry_record o past (log_of o past) e) ++ log_of o past
+
+-- the LSN that the next record gets
+abbrev pub next_lsn : Opening → List Entry → ℕ
+next_lsn o past = length (log_of o past) + 1
+
+-- the row that a key of a declared table has now
+abbrev pub row_now : Opening → List Entry → List ℕ → List Value → Option (List Value)
+row_now o past table key = row_left (log_of o past) table key
