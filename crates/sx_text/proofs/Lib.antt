@@ -1,0 +1,7 @@
+pub mod DecimalLaws
+pub mod FieldLaws
+pub mod NumberLaws
+pub mod PlainLaws
+pub mod ReadBackLaws
+pub mod RoundLaws
+pub mod WordLaws

@@ -1,0 +1,105 @@
+// Rows and keys as CSV records.
+ghost use Rattle.std.specs.Prelude.{◌≡◌, ◌++◌, ◌∷◌, [], IfOk, IsTrue, OnErr, OnOk, map};
+ghost use Rattle.std.specs.List.{list_all};
+ghost use Rattle.csv.specs.Records.{fields_of, partial_of};
+ghost use Rattle.csv.specs.Writing.{default_writer, row_text};
+ghost use Rattle.sx_values.specs.Texts.{is_printable};
+ghost use Rattle.sx_text.specs.Records.{are_values, field_of, is_value, record_of, record_text};
+
+use csv::{ByteRecord, WriterBuilder};
+use itoa::Buffer;
+use std::alloc::{AllocError, Global};
+use sx_lists::List;
+use sx_values::{Key, Row, Value};
+
+/// The CSV record that shows a row, without a line's end.
+pub fn text_of(alloc: Global, row: &Row) -> Result<List<u8>, AllocError>
+    ensures text { IfOk result (λ text. text ≡ record_text row.now) }
+    ensures printable { IfOk result (λ text. IsTrue (list_all is_printable text)) }
+    ensures values { OnOk result (IsTrue (are_values row.now)) }
+{
+    text_of_values(alloc, row.as_slice())
+}
+
+/// The CSV record that shows a key, without a line's end.
+pub fn text_of_key(alloc: Global, key: &Key) -> Result<List<u8>, AllocError>
+    ensures text { IfOk result (λ text. text ≡ record_text key.now) }
+    ensures printable { IfOk result (λ text. IsTrue (list_all is_printable text)) }
+    ensures values { OnOk result (IsTrue (are_values key.now)) }
+{
+    text_of_values(alloc, key.as_slice())
+}
+
+/// Puts the CSV record that shows values at the end, without a line's end. Want of memory leaves what was there.
+pub fn put_record(alloc: Global, out: &mut Vec<u8>, values: &[Value]) -> Result<(), AllocError>
+    ensures ok { OnOk result (out.new.items ≡ out.old.items ++ record_text values.now) }
+    ensures values { OnOk result (IsTrue (are_values values.now)) }
+    ensures err { OnErr result (out.new.items ≡ out.old.items) }
+{
+    let record = record_of_values(alloc, values)?;
+    let text = record_of(alloc, &record)?;
+    out.extend_from_slice(text.as_slice())
+}
+
+#[tactic(auto, using(crate::proofs::ReadBackLaws::printable_record_text))]
+fn text_of_values(alloc: Global, values: &[Value]) -> Result<List<u8>, AllocError>
+    ensures text { IfOk result (λ text. text ≡ record_text values.now) }
+    ensures printable { IfOk result (λ text. IsTrue (list_all is_printable text)) }
+    ensures values { OnOk result (IsTrue (are_values values.now)) }
+{
+    let record = record_of_values(alloc, values)?;
+    let text = record_of(alloc, &record)?;
+    Ok(List::from_vec(text))
+}
+
+// The record of the fields that show values.
+fn record_of_values(alloc: Global, values: &[Value]) -> Result<ByteRecord, AllocError>
+    ensures fields { IfOk result (λ given. fields_of given ≡ map field_of values.now) }
+    ensures values { OnOk result (IsTrue (are_values values.now)) }
+{
+    let mut record = ByteRecord::new(alloc);
+    for value in values {
+        push_value(&mut record, value)?;
+    }
+    Ok(record)
+}
+
+// Puts the field that shows a value at the end of a record.
+fn push_value(fields: &mut ByteRecord, value: &Value) -> Result<(), AllocError>
+    requires { partial_of fields.old ≡ [] }
+    ensures fields { OnOk result (fields_of fields.new ≡ fields_of fields.old ++ field_of value.now ∷ []) }
+    ensures partial { OnOk result (partial_of fields.new ≡ []) }
+    ensures value { OnOk result (IsTrue (is_value value.now)) }
+{
+    match value {
+        Value::Null => fields.push_field(b"NULL"),
+        Value::Int(number) => {
+            let mut digits = Buffer::new();
+            fields.push_field(digits.format(*number).as_bytes())
+        }
+        Value::Text(text) => fields.push_field(text.as_bytes()),
+    }
+}
+
+// A record as csv's writer writes it, without the line's end.
+fn record_of(alloc: Global, fields: &ByteRecord) -> Result<Vec<u8>, AllocError>
+    ensures { IfOk result (λ text. text.items ≡ record_of (fields_of fields.now)) }
+{
+    let mut line = line_of(alloc, fields)?;
+    let _line_feed = line.pop();
+    Ok(line)
+}
+
+// A record as csv's writer writes it.
+fn line_of(alloc: Global, fields: &ByteRecord) -> Result<Vec<u8>, AllocError>
+    ensures { IfOk result (λ line. line.items ≡ row_text default_writer (fields_of fields.now)) }
+{
+    let mut writer = WriterBuilder::new().from_writer(Vec::new(alloc));
+    if writer.write_byte_record(fields).is_err() {
+        return Err(AllocError);
+    }
+    match writer.into_inner() {
+        Ok(line) => Ok(line),
+        Err(_) => Err(AllocError),
+    }
+}
