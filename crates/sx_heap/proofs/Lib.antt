@@ -1,5 +1,6 @@
 pub mod EntryLemmas
 pub mod NameLemmas
 pub mod RowLemmas
+pub mod SeenLemmas
 pub mod TurnLemmas
 pub mod WalkLemmas
