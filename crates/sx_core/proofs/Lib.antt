@@ -1,5 +1,6 @@
 pub mod KeptLemmas
 pub mod MeetLemmas
+pub mod RowTurnLemmas
 pub mod ScanLemmas
 pub mod TableLemmas
 pub mod TransformLemmas

@@ -37,7 +37,7 @@ use Rattle.sx_model.specs.Scans.{has_lsn, Covers, IsRowNow, SawAll, EndsSide, si
 use Rattle.sx_model.specs.Legal.{IsLegalEntry}
 use Rattle.sx_model.proofs.LsnLaws.{one_key}
 use Rattle.sx_model.proofs.ScanLaws.{covers_whole}
-use Rattle.sx_model.proofs.StateLaws.{by_cases}
+use Rattle.sx_model.proofs.TestLaws.{by_cases}
 use Rattle.sx_core.specs.Kept.{IsKept, ClientsMeet, IsUnderWay, SawFirst}
 use Rattle.sx_core.proofs.TableLemmas.{found_meets}
 

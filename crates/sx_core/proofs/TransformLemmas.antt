@@ -26,9 +26,22 @@ use Rattle.sx_model.specs.Scans.{IsScanTurn}
 use Rattle.sx_model.specs.Switches.{switch_reply, switch_unless, conflict, has_lock_on, position}
 use Rattle.sx_model.specs.Tables.{AreNewTables, AreRows, AreDeclaredRows}
 use Rattle.sx_model.specs.Legal.{Legal, IsLegalEntry, Allows, AllowsStart, AllowsScan, AllowsSwitch, ScanAnswer, HasRoom}
+use Rattle.std.specs.Prelude.{option_map}
+use Rattle.sx_values.specs.declared.catalog.Declared.{Declared}
+use Rattle.sx_values.specs.Layouts.{Layout}
+use Rattle.sx_values.specs.Catalogs.{schema_of}
+use Rattle.sx_heap.specs.declared.seen.Seen.{Seen}
+use Rattle.sx_heap.specs.declared.walk.Walked.{Walked}
+use Rattle.sx_heap.specs.Relations.{Relation, IsRelation}
+use Rattle.sx_heap.specs.NamedTables.{table_named}
+use Rattle.sx_heap.specs.Walks.{WalksOn}
+use Rattle.sx_ops.specs.declared.spec.Spec.TheVariants.{Join, Split, Part, Union}
+use Rattle.sx_core.specs.Exchanges.{source_table, source_among}
+use Rattle.sx_core.proofs.ScanLemmas.{scan_turn, kept-scan}
+use Rattle.sx_core.proofs.TableLemmas.{has_source, HasSource, rows_meet, found_meets}
 use Rattle.sx_core.specs.Conflicts.{conflict_with, conflict_now}
 use Rattle.sx_core.specs.Machines.{Machine, Turns}
-use Rattle.sx_core.specs.Kept.{IsKept, IsIdle, IsChasing, IsUnderWay, IsSwitchedTo, TransformMeets, living_as, plain_rows}
+use Rattle.sx_core.specs.Kept.{TablesMeet, IsKept, IsIdle, IsChasing, IsUnderWay, IsSwitchedTo, TransformMeets, living_as, plain_rows}
 use Rattle.sx_core.proofs.KeptLemmas.{kept-start, tables_meet-state, state-switch}
 use Rattle.sx_core.proofs.TurnLemmas.{from_view, has_room, next-kept}
 
@@ -102,3 +115,152 @@ pub switch-answered : (o : Opening) (past : List Entry) (s : Started) → phase 
 switch-answered o past s chasing is read =
     let none : length (log_of o past) - length (log_of o past) ≡ 0 = omega arith in
     rw (chasing, is, read, none) refl
+
+-- the one source of a horizontal split, by its name
+pub record NamedSource (tables : List NamedTable) (spec : Spec) (source : Relation) : Type 0 where
+  pub name : List ℕ
+  pub one : sources_of spec ≡ name ∷ []
+  pub found : table_named tables name ≡ Some source
+
+pub source_named : (tables : List NamedTable) (spec : Spec) (source : Relation) → IsShaped spec → source_among tables spec ≡ Some source → NamedSource tables spec source
+source_named tables (Part table tests passing failing) source shaped found = record { name = table; one = refl; found = found }
+source_named tables (Join left right on_left on_right into) source shaped found = absurd shaped
+source_named tables (Split table others dep rest dependent) source shaped found = absurd shaped
+source_named tables (Union left right into) source shaped found = absurd shaped
+
+some_one : (a b : Relation) (o : Option Relation) → o ≡ Some a → o ≡ Some b → a ≡ b
+some_one a b o p q = let e : Some a ≡ Some b = sym p ∙ q in cc
+
+one_name : (a b : List ℕ) (names : List (List ℕ)) → names ≡ a ∷ [] → names ≡ b ∷ [] → a ≡ b
+one_name a b names p q = let e : a ∷ [] ≡ b ∷ [] = sym p ∙ q in cc
+
+-- the source's schema is the declared one
+source_declared : (catalog : List Declared) (log : List Rec) (tables : List NamedTable) (spec : Spec) (source : Relation)
+    → TablesMeet catalog log tables → IsShaped spec → spec_fault catalog spec ≡ None → (at : NamedSource tables spec source) → schema_of catalog at.name ≡ Some source.schema
+source_declared catalog log tables spec source meets shaped fits at =
+    let has = has_source catalog log tables spec meets shaped fits in
+    let named = one_name has.name at.name (sources_of spec) has.one at.one in
+    let same = some_one has.meets.relation source (table_named tables at.name) (ap (table_named tables) (sym named) ∙ has.meets.found) at.found in
+    subst (λ n. schema_of catalog n ≡ Some source.schema) named (rw has.is_declared (ap Some (sym has.meets.schema ∙ ap (λ (r : Relation). r.schema) same)))
+
+effect-conflict : (txn : ℕ) → effect (reply.Conflict txn) ≡ Conflicts
+unfolding effect
+effect-conflict txn = refl
+
+effect-switched : (lsn : ℕ) → effect (reply.Switched lsn) ≡ Switches
+unfolding effect
+effect-switched lsn = refl
+
+-- what an attempt is answered while the log has ended at the position
+chasing-answered : (o : Opening) (past : List Entry) (log : List Rec) (tables new_tables : List NamedTable) (alive : Option ℕ) (count : ℕ) (spec : Option Spec) (cursor : Option (List Value))
+    → (kept : IsKept o past log tables new_tables alive count Chasing spec cursor) → switch_reply o past ≡ switch_unless o past (conflict o past kept.transform_meets.0.began)
+chasing-answered o past log tables new_tables alive count spec cursor kept =
+    let under = kept.transform_meets.0.under_way in
+    switch-answered o past kept.transform_meets.0.began kept.phase_is under.is_started (under.position ∙ ap length kept.log_is)
+
+given_is : (one other : Spec) → Some one ≡ Some other → one ≡ other
+given_is one other e = cc
+
+-- the rows that a log leaves are those that it leaves with a Switch behind it
+switched_rows : (log : List Rec) (table : List ℕ) (layout : Layout) (rows : List (List Value)) → AreRows log layout table rows → AreRows (record { txn = 0; body = Switching } ∷ log) layout table rows
+switched_rows log table layout rows are = record {
+  admitted = are.admitted;
+  in_order = are.in_order;
+  same = λ key. are.same key ∙ ap (option_map (λ (s : List Value × ℕ). s.0)) (sym (state-switch log 0 table key))
+}
+
+-- a scan turn: the machine that it leaves
+pub kept-scanned : (o : Opening) (past journal : List Entry) (log : List Rec) (tables new_tables : List NamedTable) (alive : Option ℕ) (count : ℕ) (now after : Phase) (spec : Option Spec) (cursor : Option (List Value)) (m : Machine) (n : ℕ) (source : Relation) (walked : Walked) (lsns : List ℕ)
+    → Has o past log tables new_tables alive count now spec cursor m Scanning → 1 ≤ n → n ≤ 64
+    → source_table spec tables ≡ Some source → IsRelation source → WalksOn source.rows cursor n walked → lsns ≡ map (λ (s : Seen). s.lsn) walked.seen
+    → journal ≡ record { actor = 0; event = Scan n; reply = reply.Scanned 0 lsns walked.over } ∷ past
+    → after ≡ (if walked.over then Chasing else Scanning)
+    → IsKept o journal log tables new_tables alive count after spec walked.next
+kept-scanned o past journal log tables new_tables alive count now after spec cursor m n source walked lsns has some most found relation walks named is ends =
+    let scanning = phase_here o past log tables new_tables alive count now spec cursor m Scanning has in
+    let few = from_view (λ _ past. length past < 40000) o past m has.view has.room in
+    let kept = subst (λ p. IsKept o past log tables new_tables alive count p spec cursor) scanning has.kept in
+    let under = kept.transform_meets.0.under_way in
+    let at = source_named tables kept.transform_meets.0.began.spec source under.shaped (sym (ap (λ s. source_table s tables) under.is_spec) ∙ found) in
+    let turn = scan_turn o past log tables new_tables alive count spec cursor n at.name source walked kept at.one at.found relation walks in
+    let entry = legal-scan o past alive n 0 (map (λ (s : Seen). s.lsn) walked.seen) walked.over kept.clients_meet.living few some most turn in
+    rw (is, named, ends) (kept-scan o past log tables new_tables alive count spec cursor n at.name source walked _ kept at.one at.found relation walks refl refl entry)
+
+-- an attempt that a transaction hinders
+pub kept-drained : (o : Opening) (past journal : List Entry) (log : List Rec) (tables new_tables : List NamedTable) (alive : Option ℕ) (count : ℕ) (now : Phase) (spec : Option Spec) (cursor : Option (List Value)) (m : Machine) (txn : ℕ)
+    → Has o past log tables new_tables alive count now spec cursor m Chasing → conflict_now m.opening m.past ≡ Some txn
+    → journal ≡ record { actor = 0; event = Switch; reply = reply.Conflict txn } ∷ past
+    → IsKept o journal log tables new_tables alive count Draining spec cursor
+kept-drained o past journal log tables new_tables alive count now spec cursor m txn has hinders is =
+    let chasing = phase_here o past log tables new_tables alive count now spec cursor m Chasing has in
+    let few = from_view (λ _ past. length past < 40000) o past m has.view has.room in
+    let kept = subst (λ p. IsKept o past log tables new_tables alive count p spec cursor) chasing has.kept in
+    let under = kept.transform_meets.0.under_way in
+    let here = from_view (λ o past. conflict_now o past ≡ Some txn) o past m has.view hinders in
+    let with : conflict o past kept.transform_meets.0.began ≡ Some txn = sym (ap (conflict_with o past) under.is_started) ∙ here in
+    let answered = chasing-answered o past log tables new_tables alive count spec cursor kept ∙ ap (switch_unless o past) with in
+    let entry = legal-switch o past alive (reply.Conflict txn) kept.clients_meet.living few (sym answered) in
+    let told = effect-conflict txn in
+    rw is (record {
+      legal = (kept.legal, entry);
+      log_is = rw told kept.log_is;
+      tables_meet = kept.tables_meet;
+      clients_meet = record {
+        living = rw told kept.clients_meet.living;
+        begun = rw told kept.clients_meet.begun;
+        few = (let few = kept.clients_meet.few in omega arith)
+      };
+      phase_is = rw (told, under.is_started, under.blocking) refl;
+      transform_meets = kept.transform_meets.1
+    })
+
+-- the switch
+pub kept-switched : (o : Opening) (past journal : List Entry) (log longer : List Rec) (tables new_tables fresh : List NamedTable) (alive : Option ℕ) (count : ℕ) (now : Phase) (spec : Option Spec) (wanted : Spec) (cursor : Option (List Value)) (m : Machine) (source : Relation) (lsn : ℕ)
+    → Has o past log tables new_tables alive count now spec cursor m Chasing → conflict_now m.opening m.past ≡ None
+    → longer ≡ record { txn = 0; body = Switching } ∷ log → lsn ≡ length longer
+    → spec ≡ Some wanted → source_table spec tables ≡ Some source → IsRelation source
+    → names_of_tables fresh ≡ targets_of wanted → plain_rows fresh ≡ operator o.catalog wanted (map (λ (s : Seen). s.row) source.rows ∷ [])
+    → journal ≡ record { actor = 0; event = Switch; reply = reply.Switched lsn } ∷ past
+    → IsKept o journal longer tables fresh alive count Done spec cursor
+kept-switched o past journal log longer tables new_tables fresh alive count now spec wanted cursor m source lsn has hinders grown counts given found relation names rows is =
+    let chasing = phase_here o past log tables new_tables alive count now spec cursor m Chasing has in
+    let few = from_view (λ _ past. length past < 40000) o past m has.view has.room in
+    let kept = subst (λ p. IsKept o past log tables new_tables alive count p spec cursor) chasing has.kept in
+    let s = kept.transform_meets.0.began in
+    let under = kept.transform_meets.0.under_way in
+    let here = from_view (λ o past. conflict_now o past ≡ None) o past m has.view hinders in
+    let with : conflict o past s ≡ None = sym (ap (conflict_with o past) under.is_started) ∙ here in
+    let counted : lsn ≡ length log + 1 = counts ∙ ap length grown ∙ omega arith in
+    let next : next_lsn o past ≡ lsn = next-kept o past log tables new_tables alive count Chasing spec cursor kept ∙ sym counted in
+    let answered = chasing-answered o past log tables new_tables alive count spec cursor kept ∙ ap (switch_unless o past) with ∙ ap reply.Switched next in
+    let entry = legal-switch o past alive (reply.Switched lsn) kept.clients_meet.living few (sym answered) in
+    let told = effect-switched lsn in
+    let wants : s.spec ≡ wanted = given_is s.spec wanted (sym under.is_spec ∙ given) in
+    let at = source_named tables s.spec source under.shaped (sym (ap (λ s. source_table s tables) under.is_spec) ∙ found) in
+    let declared = source_declared o.catalog log tables s.spec source kept.tables_meet under.shaped under.fits at in
+    let log_grown : log_of o (record { actor = 0; event = Switch; reply = reply.Switched lsn } ∷ past) ≡ record { txn = 0; body = Switching } ∷ log = rw told (ap (λ l. record { txn = 0; body = Switching } ∷ l) (sym kept.log_is)) in
+    rw (is, grown) (record {
+      legal = (kept.legal, entry);
+      log_is = sym log_grown;
+      tables_meet = tables_meet-state o.catalog log _ tables (state-switch log 0) kept.tables_meet;
+      clients_meet = record {
+        living = rw told kept.clients_meet.living;
+        begun = rw told kept.clients_meet.begun;
+        few = (let few = kept.clients_meet.few in omega arith)
+      };
+      phase_is = rw told refl;
+      transform_meets = record {
+        began = s;
+        is_started = rw told under.is_started;
+        names = names ∙ ap targets_of (sym wants);
+        rows = record {
+          sources = map (λ (s : Seen). s.row) source.rows ∷ [];
+          are = rw at.one (record {
+            layout = source.schema;
+            declared = declared;
+            are = rw log_grown (switched_rows log at.name source.schema _ (rows_meet log at.name source relation (found_meets o.catalog log tables at.name source kept.tables_meet at.found)))
+          }, tt);
+          made = rows ∙ ap (λ w. operator o.catalog w (map (λ (s : Seen). s.row) source.rows ∷ [])) (sym wants)
+        }
+      }
+    })

@@ -34,7 +34,7 @@ pub oldest-more : (n : ℕ) (log : List Rec) (r : Rec) → n ≤ length log → 
 oldest-more n log r within = let e : suc (length log) - n ≡ suc (length log - n) = omega arith in ap (λ k. drop k (r ∷ log)) e
 
 -- there is room for an entry while entries are below 40,000
-has_room : (past : List Entry) (alive : Option ℕ) (answer : Reply) → living past ≡ living_as alive → length past < 40000 → HasRoom past answer
+pub has_room : (past : List Entry) (alive : Option ℕ) (answer : Reply) → living past ≡ living_as alive → length past < 40000 → HasRoom past answer
 has_room past None answer is few = inl (rw is (omega arith))
 has_room past (Some txn) answer is few = inl (rw is (omega arith))
 
@@ -42,7 +42,7 @@ has_room past (Some txn) answer is few = inl (rw is (omega arith))
 abbrev pub client_entry : ℕ → Request → Reply → Entry
 client_entry actor asked answer = record { actor = actor; event = Client asked; reply = answer }
 
-legal-client : (o : Opening) (past : List Entry) (alive : Option ℕ) (actor : ℕ) (asked : Request) (answer : Reply)
+pub legal-client : (o : Opening) (past : List Entry) (alive : Option ℕ) (actor : ℕ) (asked : Request) (answer : Reply)
     → living past ≡ living_as alive → length past < 40000 → actor ≡ 1 → phase past ≡ Idle → client_reply o past actor asked ≡ Some answer
     → IsLegalEntry o past (client_entry actor asked answer)
 unfolding Allows
@@ -58,10 +58,10 @@ pub record Asks (o : Opening) (past : List Entry) (log : List Rec) (tables new_t
   pub room : length m.past < 40000
 
 -- a fact about the machine is one about its fields
-from_view : (P : Opening → List Entry → Type 0) (o : Opening) (past : List Entry) (m : Machine) → record { opening = o; past = past } ≡ m → P m.opening m.past → P o past
+pub from_view : (P : Opening → List Entry → Type 0) (o : Opening) (past : List Entry) (m : Machine) → record { opening = o; past = past } ≡ m → P m.opening m.past → P o past
 from_view P o past m view fact = subst (λ (x : Machine). P x.opening x.past) (sym view) fact
 
-idle_now : (o : Opening) (past : List Entry) (log : List Rec) (tables new_tables : List NamedTable) (alive : Option ℕ) (count : ℕ) (now : Phase) (spec : Option Spec) (cursor : Option (List Value)) (m : Machine) (actor : ℕ)
+pub idle_now : (o : Opening) (past : List Entry) (log : List Rec) (tables new_tables : List NamedTable) (alive : Option ℕ) (count : ℕ) (now : Phase) (spec : Option Spec) (cursor : Option (List Value)) (m : Machine) (actor : ℕ)
     → Asks o past log tables new_tables alive count now spec cursor m actor → now ≡ Idle
 idle_now o past log tables new_tables alive count now spec cursor m actor asks =
     sym asks.kept.phase_is ∙ from_view (λ _ past. phase past ≡ Idle) o past m asks.view asks.idle
