@@ -1,3 +1,4 @@
+pub mod ExchangeLemmas
 pub mod KeptLemmas
 pub mod MeetLemmas
 pub mod ScanLemmas

@@ -109,12 +109,12 @@ values_eq-sym key other = ap is_eq (values_total.antisymm key other) ∙ by (val
     by Greater = refl
 
 
-admitted_rows : (layout : Layout) (rows : List Seen) → AllByRecursion (IsRowOf layout) rows → AllByRecursion (Admits layout) (map (λ (s : Seen). s.row) rows)
+pub admitted_rows : (layout : Layout) (rows : List Seen) → AllByRecursion (IsRowOf layout) rows → AllByRecursion (Admits layout) (map (λ (s : Seen). s.row) rows)
 admitted_rows layout [] each = tt
 admitted_rows layout (s ∷ rows) each = (each.0.admitted, admitted_rows layout rows each.1)
 
 -- the keys of the rows are the keys that the schema gives them
-keys_of_rows : (layout : Layout) (rows : List Seen) → AllByRecursion (IsRowOf layout) rows → row_keys rows ≡ map (key_of layout) (map (λ (s : Seen). s.row) rows)
+pub keys_of_rows : (layout : Layout) (rows : List Seen) → AllByRecursion (IsRowOf layout) rows → row_keys rows ≡ map (key_of layout) (map (λ (s : Seen). s.row) rows)
 keys_of_rows layout [] each = refl
 keys_of_rows layout (s ∷ rows) each =
     let first = each.0.keyed in
@@ -158,7 +158,7 @@ pub has_source : (catalog : List Declared) (log : List Rec) (tables : List Named
     → TablesMeet catalog log tables → IsShaped spec → spec_fault catalog spec ≡ None → HasSource catalog log tables spec
 has_source catalog log tables (Part table tests passing failing) meets shaped fits = by (declared_as catalog table) refl fits
   where
-    by : (answer : Option Declared) → declared_as catalog table ≡ answer → part_fault catalog answer table tests passing failing ≡ None → HasSource catalog log tables (Part table tests passing failing)
+    by : (answer : Option Declared) → declared_as catalog table ≡ answer → part_fault catalog (option_map (λ (t : Declared). t.schema) answer) table tests passing failing ≡ None → HasSource catalog log tables (Part table tests passing failing)
     by None none fault = absurd (cc)
     by (Some d) is fault = record { name = table; one = refl; declared = d; is_declared = is; meets = meets_named catalog log tables table d meets is }
 has_source catalog log tables (Join left right on_left on_right into) meets shaped fits = absurd shaped

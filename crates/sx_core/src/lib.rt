@@ -1,6 +1,7 @@
 //! The machine: it answers each event by the journal, and keeps the tables and the log that follow from it.
 #![tactic(auto)]
 
+mod exchange;
 mod found;
 mod machine;
 mod turns;
