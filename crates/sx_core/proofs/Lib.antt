@@ -1,5 +1,6 @@
 pub mod ExchangeLemmas
 pub mod KeptLemmas
+pub mod MakeLemmas
 pub mod MeetLemmas
 pub mod ScanLemmas
 pub mod TableLemmas

@@ -4,7 +4,9 @@
 mod exchange;
 mod found;
 mod machine;
+mod make;
 mod turns;
 
 pub use machine::{Core, CoreFault};
+pub use make::MakeFault;
 pub use sx_log::{Load, Loads};

@@ -1,6 +1,5 @@
-use Rattle.std.proofs.Common.{◌≡◌, ◌∷◌, ◌∙◌, [], List, length, refl, sym, ap, arith}
+use Rattle.std.proofs.Common.{◌∙◌, length, sym, ap, arith}
 use Rattle.std.specs.Vec.Iter.{into_iter_items}
-use Rattle.sx_values.specs.declared.value.Value.{Value}
 use Rattle.sx_core.proofs.ExchangeLemmas.{filling_lacks, filling_more, filling_done, nothing_left}
 use Rattle.sx_core.proofs.exchange.filled.Goals as goal
 

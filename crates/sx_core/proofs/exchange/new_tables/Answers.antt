@@ -1,6 +1,5 @@
 use Rattle.std.proofs.Common.{◌≡◌, ◌∷◌, ◌∙◌, [], List, IfOk, ap, sym, subst}
 use Rattle.std.specs.List.{IsDistinct}
-use Rattle.sx_values.specs.declared.value.Value.{Value}
 use Rattle.sx_values.specs.Names.{same_name}
 use Rattle.sx_heap.specs.declared.tables.NamedTable.{NamedTable}
 use Rattle.sx_heap.specs.NamedTables.{names_of_tables}
