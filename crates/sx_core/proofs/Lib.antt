@@ -1,4 +1,6 @@
+pub mod ExchangeLemmas
 pub mod KeptLemmas
+pub mod MakeLemmas
 pub mod MeetLemmas
 pub mod RowTurnLemmas
 pub mod ScanLemmas

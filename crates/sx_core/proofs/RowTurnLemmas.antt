@@ -24,7 +24,12 @@ use Rattle.sx_model.specs.Replies.{client_reply, reply_in, reply_outside, reply_
 use Rattle.sx_core.specs.Changes.{IsChange, FitsKey}
 use Rattle.sx_core.specs.Meets.{RowMeets, KeyMeets, RowRefused, KeyRefused}
 use Rattle.sx_core.specs.Writes.{TakesImage}
-use Rattle.sx_core.specs.Kept.{TablesMeet}
+use Rattle.sx_ops.specs.declared.spec.Spec.{Spec}
+use Rattle.sx_sync.specs.declared.Phase.{Phase}
+use Rattle.sx_heap.specs.NamedTables.{AreNamedApart}
+use Rattle.sx_core.specs.Machines.{Machine}
+use Rattle.sx_core.specs.Kept.{TablesMeet, IsKept}
+use Rattle.sx_core.proofs.TurnLemmas.{Asks, client_entry, kept-wrote, next-of}
 use Rattle.sx_core.proofs.TableLemmas.{meets_named, MeetsNamed}
 
 pub quiet-no_txn : effect reply.NoTxn ≡ Nothing
@@ -156,3 +161,25 @@ takes_image o past log tables actor txn asked table key before after is meets ch
         let e : Some d.schema ≡ Some change.layout = sym (rw some refl) ∙ change.declared in
         let same : d.schema ≡ change.layout = cc in
         rw m.found (fits m.relation after change.layout (m.schema ∙ same) (ap (option_map (λ (s : List Value × ℕ). s.0)) (ap (λ l. state_at l table key) (sym is) ∙ sym (m.rows key))) change.fits)
+
+-- a write of an image at a key, as the tables tell it
+pub wrote : (o : Opening) (past journal : List Entry) (log longer : List Rec) (tables changed new_tables : List NamedTable) (alive : Option ℕ) (count : ℕ) (now : Phase) (spec : Option Spec) (cursor : Option (List Value)) (m : Machine) (actor txn lsn : ℕ)
+    (asked : Request) (name : List ℕ) (key : List Value) (before after : Option (List Value))
+    → Asks o past log tables new_tables alive count now spec cursor m actor → longer ≡ record { txn = txn; body = Write name key before after } ∷ log → lsn ≡ length log + 1
+    → journal ≡ client_entry actor asked (reply.Done lsn) ∷ past
+    → txn_of m.past actor ≡ Some txn
+    → IsChange m.opening m.past actor txn asked name key before after
+    → AreNamedApart tables → IsSomeAnd (table_named tables name) (λ before. SetsRowIn tables changed name before key (stored lsn after))
+    → IsKept o journal longer changed new_tables alive count now spec cursor
+wrote o past journal log longer tables changed new_tables alive count now spec cursor m actor txn lsn asked name key before after asks grown counts is inside change apart sets = by (table_named tables name) refl sets
+  where
+    next : next_lsn m.opening m.past ≡ lsn
+    next = next-of o past log tables new_tables alive count now spec cursor m lsn asks.kept asks.view counts
+    made : request_record o.catalog log txn asked ≡ Some (record { txn = txn; body = Write name key before after })
+    made = ap (λ l. request_record o.catalog l txn asked) asks.kept.log_is
+        ∙ subst (λ (x : Machine). request_record x.opening.catalog (log_of x.opening x.past) txn asked ≡ Some (record { txn = txn; body = Write name key before after })) (sym asks.view) change.made
+    by : (t : Option Relation) → table_named tables name ≡ t → IsSomeAnd t (λ before. SetsRowIn tables changed name before key (stored lsn after)) → IsKept o journal longer changed new_tables alive count now spec cursor
+    by None none sets = absurd sets
+    by (Some old) found sets =
+        kept-wrote o past journal log longer tables changed new_tables alive count now spec cursor m actor txn lsn asked name key before after old sets.after asks grown counts is inside
+          (change.answered ∙ ap (λ n. Some (reply.Done n)) next) made apart found sets.sets sets.others

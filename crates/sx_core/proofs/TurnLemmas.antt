@@ -212,3 +212,8 @@ pub next-of : (o : Opening) (past : List Entry) (log : List Rec) (tables new_tab
     → IsKept o past log tables new_tables alive count now spec cursor → record { opening = o; past = past } ≡ m → lsn ≡ length log + 1 → next_lsn m.opening m.past ≡ lsn
 next-of o past log tables new_tables alive count now spec cursor m lsn kept view is =
     ap (λ (x : Machine). next_lsn x.opening x.past) (sym view) ∙ next-kept o past log tables new_tables alive count now spec cursor kept ∙ sym is
+
+-- the transaction that the machine keeps is the client's
+pub alive_is : (now past : List Entry) (alive : Option ℕ) (actor : ℕ) → past ≡ now → living past ≡ living_as alive → actor ≡ 1 → alive ≡ txn_of now actor
+alive_is now past None actor same is client = rw (← same) (rw is refl)
+alive_is now past (Some txn) actor same is client = rw (← same) (rw (is, client) refl)

@@ -1,7 +1,9 @@
+pub mod Answers
 pub mod Changes
 pub mod Conflicts
 pub mod Exchanges
 pub mod Kept
+pub mod Loading
 pub mod Machines
 pub mod Meets
 pub mod Views

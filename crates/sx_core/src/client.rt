@@ -1,12 +1,11 @@
 // A client's requests.
 ghost use Rattle.std.specs.Prelude.{◌≡◌, ◌<◌, length, Option, Some, None, OnErr, IfOk, IfErr};
 ghost use Rattle.sx_sync.specs.declared.Phase.TheVariants.{Idle};
-ghost use Rattle.sx_journal.specs.declared.entry.Event.TheVariants.{Client};
 ghost use Rattle.sx_core.specs.declared.machine.CoreFault.TheVariants.{Memory};
 ghost use Rattle.sx_model.specs.Built.{IsBuilt};
+ghost use Rattle.sx_core.specs.Answers.{AnswersClient};
 ghost use Rattle.sx_model.specs.Leaves.{phase, txn_of};
 ghost use Rattle.sx_model.specs.Replies.{client_reply};
-ghost use Rattle.sx_core.specs.Machines.{Turns};
 
 use crate::found::Found;
 use crate::{Core, CoreFault};
@@ -21,10 +20,7 @@ impl Core {
         requires built { IsBuilt request }
         requires idle { phase self.old.past ≡ Idle }
         requires room { length self.old.past < 40000 }
-        ensures reply { IfOk result (λ reply. client_reply self.old.opening self.old.past actor request ≡ Some reply) }
-        ensures turn { IfOk result (λ reply. Turns self.old self.new actor (Client request) reply) }
-        ensures err { OnErr result (self.new ≡ self.old) }
-        ensures fault { IfErr result (λ fault. fault ≡ Memory) }
+        ensures { AnswersClient self.old self.new actor request result }
     {
         match self.alive(actor) {
             None => self.outside(actor, request),
@@ -46,10 +42,7 @@ impl Core {
         requires idle { phase self.old.past ≡ Idle }
         requires room { length self.old.past < 40000 }
         requires outside { txn_of self.old.past actor ≡ None }
-        ensures reply { IfOk result (λ reply. client_reply self.old.opening self.old.past actor request ≡ Some reply) }
-        ensures turn { IfOk result (λ reply. Turns self.old self.new actor (Client request) reply) }
-        ensures err { OnErr result (self.new ≡ self.old) }
-        ensures fault { IfErr result (λ fault. fault ≡ Memory) }
+        ensures { AnswersClient self.old self.new actor request result }
     {
         match request {
             Request::Begin => self.begin(actor),
@@ -64,10 +57,7 @@ impl Core {
         requires idle { phase self.old.past ≡ Idle }
         requires room { length self.old.past < 40000 }
         requires inside { txn_of self.old.past actor ≡ Some txn }
-        ensures reply { IfOk result (λ reply. client_reply self.old.opening self.old.past actor request ≡ Some reply) }
-        ensures turn { IfOk result (λ reply. Turns self.old self.new actor (Client request) reply) }
-        ensures err { OnErr result (self.new ≡ self.old) }
-        ensures fault { IfErr result (λ fault. fault ≡ Memory) }
+        ensures { AnswersClient self.old self.new actor request result }
     {
         match request {
             Request::Begin => self.note(actor, Request::Begin, Reply::Already),

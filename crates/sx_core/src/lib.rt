@@ -2,11 +2,15 @@
 #![tactic(auto)]
 
 mod client;
+mod exchange;
 mod found;
 mod machine;
+mod make;
 mod propagator;
 mod rows;
 mod turns;
 
 pub use machine::{Core, CoreFault};
+pub use make::MakeFault;
 pub use sx_log::{Load, Loads};
+

@@ -1,11 +1,10 @@
 // Requests that write a row.
-ghost use Rattle.std.specs.Prelude.{◌≡◌, ◌<◌, length, Option, Some, None, OnErr, IfOk, IfErr};
+ghost use Rattle.std.specs.Prelude.{◌≡◌, ◌<◌, ◌+◌, length, Option, Some, None, OnErr, IfOk, IfErr};
 ghost use Rattle.sx_sync.specs.declared.Phase.TheVariants.{Idle};
-ghost use Rattle.sx_journal.specs.declared.entry.Event.TheVariants.{Client};
 ghost use Rattle.sx_core.specs.declared.machine.CoreFault.TheVariants.{Memory};
+ghost use Rattle.sx_core.specs.Answers.{AnswersClient};
 ghost use Rattle.sx_model.specs.Leaves.{phase, txn_of};
 ghost use Rattle.sx_model.specs.Replies.{client_reply};
-ghost use Rattle.sx_core.specs.Machines.{Turns};
 ghost use Rattle.sx_core.specs.Changes.{IsChange};
 ghost use Rattle.sx_core.specs.Meets.{MeetsRow, MeetsKey};
 
@@ -13,7 +12,7 @@ use crate::found::{Found, put_image};
 use crate::{Core, CoreFault};
 use sx_journal::{Entry, Event, Reply, Request};
 use sx_lists::Copied;
-use sx_log::{Body, Rec};
+use sx_log::{Body, Log, Rec};
 use sx_values::{Key, Name, Row};
 
 impl Core {
@@ -45,10 +44,7 @@ impl Core {
         requires idle { phase self.old.past ≡ Idle }
         requires room { length self.old.past < 40000 }
         requires inside { txn_of self.old.past actor ≡ Some txn }
-        ensures reply { IfOk result (λ reply. client_reply self.old.opening self.old.past actor (Request.Insert table row) ≡ Some reply) }
-        ensures turn { IfOk result (λ reply. Turns self.old self.new actor (Client (Request.Insert table row)) reply) }
-        ensures err { OnErr result (self.new ≡ self.old) }
-        ensures fault { IfErr result (λ fault. fault ≡ Memory) }
+        ensures { AnswersClient self.old self.new actor (Request.Insert table row) result }
     {
         let found = self.row_found(&table, &row)?;
         match found {
@@ -77,10 +73,7 @@ impl Core {
         requires idle { phase self.old.past ≡ Idle }
         requires room { length self.old.past < 40000 }
         requires inside { txn_of self.old.past actor ≡ Some txn }
-        ensures reply { IfOk result (λ reply. client_reply self.old.opening self.old.past actor (Request.Update table row) ≡ Some reply) }
-        ensures turn { IfOk result (λ reply. Turns self.old self.new actor (Client (Request.Update table row)) reply) }
-        ensures err { OnErr result (self.new ≡ self.old) }
-        ensures fault { IfErr result (λ fault. fault ≡ Memory) }
+        ensures { AnswersClient self.old self.new actor (Request.Update table row) result }
     {
         let found = self.row_found(&table, &row)?;
         match found {
@@ -109,10 +102,7 @@ impl Core {
         requires idle { phase self.old.past ≡ Idle }
         requires room { length self.old.past < 40000 }
         requires inside { txn_of self.old.past actor ≡ Some txn }
-        ensures reply { IfOk result (λ reply. client_reply self.old.opening self.old.past actor (Request.Delete table key) ≡ Some reply) }
-        ensures turn { IfOk result (λ reply. Turns self.old self.new actor (Client (Request.Delete table key)) reply) }
-        ensures err { OnErr result (self.new ≡ self.old) }
-        ensures fault { IfErr result (λ fault. fault ≡ Memory) }
+        ensures { AnswersClient self.old self.new actor (Request.Delete table key) result }
     {
         let found = self.key_found(&table, &key)?;
         match found {
@@ -144,12 +134,9 @@ impl Core {
         requires room { length self.old.past < 40000 }
         requires inside { txn_of self.old.past actor ≡ Some txn }
         requires change { IsChange self.old.opening self.old.past actor txn request table key before after }
-        ensures reply { IfOk result (λ reply. client_reply self.old.opening self.old.past actor request ≡ Some reply) }
-        ensures turn { IfOk result (λ reply. Turns self.old self.new actor (Client request) reply) }
-        ensures err { OnErr result (self.new ≡ self.old) }
-        ensures fault { IfErr result (λ fault. fault ≡ Memory) }
+        ensures { AnswersClient self.old self.new actor request result }
     {
-        let lsn = self.log.len() + 1;
+        let lsn = next_lsn(&self.log);
         self.journal.reserve(1)?;
         self.log.reserve(1)?;
         put_image(self.alloc, &mut self.tables, &table, &key, &after, lsn)?;
@@ -169,4 +156,11 @@ impl Core {
         });
         Ok(Reply::Done { lsn })
     }
+}
+
+// The LSN of the next record.
+fn next_lsn(log: &Log) -> u64
+    ensures { result ≡ length log.now.newest + 1 }
+{
+    log.as_slice().len() as u64 + 1
 }

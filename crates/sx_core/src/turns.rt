@@ -1,12 +1,11 @@
 // What a client's turn does to the machine.
 ghost use Rattle.std.specs.Prelude.{◌≡◌, ◌<◌, length, Some, None, OnErr, IfOk, IfErr};
 ghost use Rattle.sx_sync.specs.declared.Phase.TheVariants.{Idle};
-ghost use Rattle.sx_journal.specs.declared.entry.Event.TheVariants.{Client};
 ghost use Rattle.sx_core.specs.declared.machine.CoreFault.TheVariants.{Memory};
 ghost use Rattle.sx_model.specs.Effects.{effect, Nothing};
+ghost use Rattle.sx_core.specs.Answers.{AnswersClient};
 ghost use Rattle.sx_model.specs.Leaves.{phase, txn_of};
 ghost use Rattle.sx_model.specs.Replies.{client_reply};
-ghost use Rattle.sx_core.specs.Machines.{Turns};
 
 use crate::{Core, CoreFault};
 use sx_journal::{Entry, Event, Reply, Request};
@@ -26,10 +25,7 @@ impl Core {
         requires room { length self.old.past < 40000 }
         requires answered { client_reply self.old.opening self.old.past actor request ≡ Some reply }
         requires quiet { effect reply ≡ Nothing }
-        ensures reply { IfOk result (λ answer. answer ≡ reply) }
-        ensures turn { IfOk result (λ answer. Turns self.old self.new actor (Client request) answer) }
-        ensures err { OnErr result (self.new ≡ self.old) }
-        ensures fault { IfErr result (λ fault. fault ≡ Memory) }
+        ensures { AnswersClient self.old self.new actor request result }
     {
         let answer = reply.copy(self.alloc)?;
         self.journal.reserve(1)?;
@@ -47,10 +43,7 @@ impl Core {
         requires idle { phase self.old.past ≡ Idle }
         requires room { length self.old.past < 40000 }
         requires outside { txn_of self.old.past actor ≡ None }
-        ensures reply { IfOk result (λ answer. client_reply self.old.opening self.old.past actor Request.Begin ≡ Some answer) }
-        ensures turn { IfOk result (λ answer. Turns self.old self.new actor (Client Request.Begin) answer) }
-        ensures err { OnErr result (self.new ≡ self.old) }
-        ensures fault { IfErr result (λ fault. fault ≡ Memory) }
+        ensures { AnswersClient self.old self.new actor Request.Begin result }
     {
         self.journal.reserve(1)?;
         let txn = self.begun + 1;
@@ -70,10 +63,7 @@ impl Core {
         requires idle { phase self.old.past ≡ Idle }
         requires room { length self.old.past < 40000 }
         requires inside { txn_of self.old.past actor ≡ Some txn }
-        ensures reply { IfOk result (λ answer. client_reply self.old.opening self.old.past actor Request.Commit ≡ Some answer) }
-        ensures turn { IfOk result (λ answer. Turns self.old self.new actor (Client Request.Commit) answer) }
-        ensures err { OnErr result (self.new ≡ self.old) }
-        ensures fault { IfErr result (λ fault. fault ≡ Memory) }
+        ensures { AnswersClient self.old self.new actor Request.Commit result }
     {
         self.journal.reserve(1)?;
         self.log.reserve(1)?;
