@@ -58,10 +58,10 @@ kept-quiet o past log tables new_tables alive count spec cursor e kept quiet ent
   clients_meet = record {
     living = living-quiet past e quiet ∙ kept.clients_meet.living;
     begun = begun-quiet past e quiet ∙ kept.clients_meet.begun;
-    few = (let few = kept.clients_meet.few in omega arith)
+    few = (let few = kept.clients_meet.few in omega arith);
   };
   phase_is = phase-quiet past e quiet ∙ kept.phase_is;
-  transform_meets = record { none = started-quiet past e quiet ∙ kept.transform_meets.none; no_tables = kept.transform_meets.no_tables }
+  transform_meets = record { none = started-quiet past e quiet ∙ kept.transform_meets.none; no_tables = kept.transform_meets.no_tables };
 }
 
 -- a transaction begins
@@ -75,10 +75,10 @@ kept-begin o past log tables new_tables count txn spec cursor e kept begins acto
   clients_meet = record {
     living = rw (begins, actor, kept.clients_meet.living);
     begun = rw begins (ap (λ n. n + 1) kept.clients_meet.begun);
-    few = (let few = kept.clients_meet.few in omega arith)
+    few = (let few = kept.clients_meet.few in omega arith);
   };
   phase_is = rw begins kept.phase_is;
-  transform_meets = record { none = rw begins kept.transform_meets.none; no_tables = kept.transform_meets.no_tables }
+  transform_meets = record { none = rw begins kept.transform_meets.none; no_tables = kept.transform_meets.no_tables };
 }
 
 -- the tables meet a log with one more record that leaves every state
@@ -88,7 +88,8 @@ pub tables_meet-state : (catalog : List Declared) (log longer : List Rec) (table
 tables_meet-state [] log longer [] same meets = tt
 tables_meet-state (d ∷ catalog) log longer (t ∷ tables) same meets = (
   record { name = meets.0.name; schema = meets.0.schema; rows = λ key. meets.0.rows key ∙ sym (same d.name key) },
-  tables_meet-state catalog log longer tables same meets.1)
+  tables_meet-state catalog log longer tables same meets.1,
+)
 tables_meet-state [] log longer (t ∷ tables) same meets = meets
 tables_meet-state (d ∷ catalog) log longer [] same meets = meets
 
@@ -115,10 +116,10 @@ kept-commit o past log tables new_tables count txn spec cursor e kept commits ac
   clients_meet = record {
     living = rw (commits, actor, kept.clients_meet.living);
     begun = rw commits kept.clients_meet.begun;
-    few = (let few = kept.clients_meet.few in omega arith)
+    few = (let few = kept.clients_meet.few in omega arith);
   };
   phase_is = rw commits kept.phase_is;
-  transform_meets = record { none = rw commits kept.transform_meets.none; no_tables = kept.transform_meets.no_tables }
+  transform_meets = record { none = rw commits kept.transform_meets.none; no_tables = kept.transform_meets.no_tables };
 }
 
 -- a write
@@ -135,10 +136,10 @@ kept-write o past log tables new_tables changed count txn spec cursor e name key
   clients_meet = record {
     living = rw writes kept.clients_meet.living;
     begun = rw writes kept.clients_meet.begun;
-    few = (let few = kept.clients_meet.few in omega arith)
+    few = (let few = kept.clients_meet.few in omega arith);
   };
   phase_is = rw writes kept.phase_is;
-  transform_meets = record { none = rw writes kept.transform_meets.none; no_tables = kept.transform_meets.no_tables }
+  transform_meets = record { none = rw writes kept.transform_meets.none; no_tables = kept.transform_meets.no_tables };
 }
 
 effect-started : (answer : Reply) (lsn : ℕ) → answer ≡ Marked lsn → effect answer ≡ Starts lsn
@@ -165,21 +166,24 @@ kept-start o past log tables new_tables alive count spec earlier cursor e kept i
   clients_meet = record {
     living = rw starts kept.clients_meet.living;
     begun = rw starts kept.clients_meet.begun;
-    few = (let few = kept.clients_meet.few in omega arith)
+    few = (let few = kept.clients_meet.few in omega arith);
   };
   phase_is = rw starts;
-  transform_meets = (record {
-    began = record { spec = spec; strategy = Blocking; mark = length log + 1 };
-    under_way = record {
-      is_started = rw (starts, event);
-      is_spec = refl;
-      blocking = refl;
-      shaped = shaped;
-      fits = fits;
-      mark = omega arith;
-      position = rw starts (omega arith)
-    };
-    next_side = next_side-start o past e spec (length log + 1) is event;
-    saw = λ name source one found. record { count = 0; ahead = rows_after-none source.rows; saw = rw starts }
-  }, kept.transform_meets.no_tables)
+  transform_meets = (
+    record {
+      began = record { spec = spec; strategy = Blocking; mark = length log + 1 };
+      under_way = record {
+        is_started = rw (starts, event);
+        is_spec = refl;
+        blocking = refl;
+        shaped = shaped;
+        fits = fits;
+        mark = omega arith;
+        position = rw starts (omega arith);
+      };
+      next_side = next_side-start o past e spec (length log + 1) is event;
+      saw = λ name source one found. record { count = 0; ahead = rows_after-none source.rows; saw = rw starts };
+    },
+    kept.transform_meets.no_tables,
+  );
 }

@@ -155,7 +155,7 @@ loading_goes_on catalog loads left log longer tables changed load more loading i
       logged =
           sym (append_assoc (reverse (map (load_record catalog) more)) (load_record catalog load ∷ []) log)
           ∙ ap (λ l. l ++ log) (sym (reverse-append (load_record catalog load ∷ []) (map (load_record catalog) more)))
-        ∙ ap (λ l. reverse (map (load_record catalog) l) ++ log) (sym is) ∙ loading.logged;
+          ∙ ap (λ l. reverse (map (load_record catalog) l) ++ log) (sym is) ∙ loading.logged;
       meet = put.1;
       admitted = admitted.1;
       apart = differ.1;

@@ -69,14 +69,14 @@ row_found_at o past log tables table row key before is meets found = by (declare
     by (Some d) some =
         let m = meets_named o.catalog log tables table d meets some in
         let e : found_at (row_fault m.relation.schema row) (key_of m.relation.schema row) (row_at m.relation.rows (key_of m.relation.schema row)) ≡ At key before =
-            sym (ap (λ t. row_found t row) m.found) ∙ found in
+        sym (ap (λ t. row_found t row) m.found) ∙ found in
         let parts = at_key _ _ _ key before e in
         record {
           layout = d.schema;
           declared = schema-declared o.catalog table d some;
           admitted = subst (λ (l : Layout). row_fault l row ≡ None) m.schema parts.0;
           keyed = parts.1 ∙ ap (λ (l : Layout). key_of l row) m.schema;
-          there = ap (row_now o past table) parts.1 ∙ now-there o past log table (key_of m.relation.schema row) m.relation is (m.rows (key_of m.relation.schema row)) ∙ parts.2
+          there = ap (row_now o past table) parts.1 ∙ now-there o past log table (key_of m.relation.schema row) m.relation is (m.rows (key_of m.relation.schema row)) ∙ parts.2;
         }
 
 -- a row that is refused
@@ -93,14 +93,14 @@ row_found_refused o past log tables table row answer meets found = by (declared_
     by (Some d) some =
         let m = meets_named o.catalog log tables table d meets some in
         let e : found_at (row_fault m.relation.schema row) (key_of m.relation.schema row) (row_at m.relation.rows (key_of m.relation.schema row)) ≡ Refused answer =
-            sym (ap (λ t. row_found t row) m.found) ∙ found in
+        sym (ap (λ t. row_found t row) m.found) ∙ found in
         let parts = refused_for _ _ _ answer e in
         let bad : row_fault d.schema row ≡ Some parts.0 = subst (λ (l : Layout). row_fault l row ≡ Some parts.0) m.schema parts.1 in
         let declared = schema-declared o.catalog table d some in
         record {
           quiet = subst (λ a. effect a ≡ Nothing) (sym parts.2) (effect-bad_row parts.0);
           insert = rw (declared, bad) (sym parts.2);
-          update = rw (declared, bad) (sym parts.2)
+          update = rw (declared, bad) (sym parts.2);
         }
 
 -- a key that is found
@@ -113,13 +113,15 @@ key_found_at o past log tables table key k before is meets found = by (declared_
     by (Some d) some =
         let m = meets_named o.catalog log tables table d meets some in
         let e : found_at (key_fault m.relation.schema key) key (row_at m.relation.rows key) ≡ At k before = sym (ap (λ t. key_found t key) m.found) ∙ found in
-        let parts = at_key _ _ _ k before e in
-        (parts.1, record {
-          layout = d.schema;
-          declared = schema-declared o.catalog table d some;
-          admitted = subst (λ (l : Layout). key_fault l key ≡ None) m.schema parts.0;
-          there = now-there o past log table key m.relation is (m.rows key) ∙ parts.2
-        })
+        let parts = at_key _ _ _ k before e in (
+          parts.1,
+          record {
+            layout = d.schema;
+            declared = schema-declared o.catalog table d some;
+            admitted = subst (λ (l : Layout). key_fault l key ≡ None) m.schema parts.0;
+            there = now-there o past log table key m.relation is (m.rows key) ∙ parts.2;
+          },
+        )
 
 -- a key that is refused
 pub key_found_refused : (o : Opening) (past : List Entry) (log : List Rec) (tables : List NamedTable) (table : List ℕ) (key : List Value) (answer : Reply)
@@ -138,7 +140,7 @@ key_found_refused o past log tables table key answer meets found = by (declared_
         let bad : key_fault d.schema key ≡ Some parts.0 = subst (λ (l : Layout). key_fault l key ≡ Some parts.0) m.schema parts.1 in
         record {
           quiet = subst (λ a. effect a ≡ Nothing) (sym parts.2) (effect-bad_row parts.0);
-          delete = rw (schema-declared o.catalog table d some, bad) (sym parts.2)
+          delete = rw (schema-declared o.catalog table d some, bad) (sym parts.2);
         }
 
 -- what a row meets in the tables is what it meets by the journal

@@ -116,7 +116,7 @@ insert-change o past actor txn table row key some m = record {
   made = rw (m.declared, sym m.keyed, m.there) refl;
   layout = m.layout;
   declared = m.declared;
-  fits = (m.admitted, m.keyed)
+  fits = (m.admitted, m.keyed);
 }
 
 pub update-change : (o : Opening) (past : List Entry) (actor txn : ℕ) (table : List ℕ) (row key there : List Value) → txn_of past actor ≡ Some txn → RowMeets o past table row key (Some there)
@@ -127,7 +127,7 @@ update-change o past actor txn table row key there some m = record {
   made = rw (m.declared, sym m.keyed, m.there) refl;
   layout = m.layout;
   declared = m.declared;
-  fits = (m.admitted, m.keyed)
+  fits = (m.admitted, m.keyed);
 }
 
 pub delete-change : (o : Opening) (past : List Entry) (actor txn : ℕ) (table : List ℕ) (key there : List Value) → txn_of past actor ≡ Some txn → KeyMeets o past table key (Some there)
@@ -138,7 +138,7 @@ delete-change o past actor txn table key there some m = record {
   made = rw m.there refl;
   layout = m.layout;
   declared = m.declared;
-  fits = rw m.there refl
+  fits = rw m.there refl;
 }
 
 -- the table that is written can have the image
@@ -154,6 +154,7 @@ takes_image o past log tables actor txn asked table key before after is meets ch
         some_there : (there : Option (List Value × ℕ)) → IsSome (option_map (λ (s : List Value × ℕ). s.0) there) → IsSome there
         some_there (Some s) h = refl
         some_there None h = h
+
     by : (d : Option Declared) → declared_as o.catalog table ≡ d → IsSomeAnd (table_named tables table) (TakesImage key after)
     by None none = let e : None ≡ Some change.layout = sym (rw none refl) ∙ change.declared in cc
     by (Some d) some =
@@ -175,11 +176,13 @@ wrote o past journal log longer tables changed new_tables alive count now spec c
   where
     next : next_lsn m.opening m.past ≡ lsn
     next = next-of o past log tables new_tables alive count now spec cursor m lsn asks.kept asks.view counts
+
     made : request_record o.catalog log txn asked ≡ Some (record { txn = txn; body = Write name key before after })
     made = ap (λ l. request_record o.catalog l txn asked) asks.kept.log_is
         ∙ subst (λ (x : Machine). request_record x.opening.catalog (log_of x.opening x.past) txn asked ≡ Some (record { txn = txn; body = Write name key before after })) (sym asks.view) change.made
+
     by : (t : Option Relation) → table_named tables name ≡ t → IsSomeAnd t (λ before. SetsRowIn tables changed name before key (stored lsn after)) → IsKept o journal longer changed new_tables alive count now spec cursor
     by None none sets = absurd sets
     by (Some old) found sets =
         kept-wrote o past journal log longer tables changed new_tables alive count now spec cursor m actor txn lsn asked name key before after old sets.after asks grown counts is inside
-          (change.answered ∙ ap (λ n. Some (reply.Done n)) next) made apart found sets.sets sets.others
+        (change.answered ∙ ap (λ n. Some (reply.Done n)) next) made apart found sets.sets sets.others

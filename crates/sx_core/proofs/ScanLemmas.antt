@@ -127,8 +127,10 @@ lsn_among (s ∷ rows) key row lsn is = by (same_key key s.key) is (λ rest. lsn
   where
     itself : (n : ℕ) → nat_eq n n ≡ true
     itself n = grind (arith, nat_tests)
+
     inside : Some (found s) ≡ Some (row, lsn) → s.lsn ≡ lsn
     inside h = ap (λ (answer : Option Stored). elim answer [ None ↦ 0 | Some p ↦ p.1 ]) h
+
     by : (b : Bool) → cond b (Some (found s)) (row_at rows key) ≡ Some (row, lsn) → (row_at rows key ≡ Some (row, lsn) → has_lsn (lsns_of rows) lsn ≡ true) → has_lsn (lsns_of (s ∷ rows)) lsn ≡ true
     by true h again =
         let here : nat_eq lsn s.lsn ≡ true = subst (λ n. nat_eq n s.lsn ≡ true) (inside h) (itself s.lsn) in
@@ -172,14 +174,14 @@ turn_unseen : (log : List Rec) (name : List ℕ) (rows earlier turn ahead : List
     → IsTrue (not (list_any (has_lsn (lsns_of earlier)) (lsns_of turn)))
 turn_unseen log name rows earlier turn ahead at =
     none_passes (has_lsn (lsns_of earlier)) (lsns_of turn)
-      (every_front (λ y. has_lsn (lsns_of earlier) y ≡ false) (lsns_of turn) (lsns_of ahead) (not_among (lsns_of earlier) (lsns_of turn ++ lsns_of ahead) (distinct_parts log name rows earlier turn ahead at)))
+    (every_front (λ y. has_lsn (lsns_of earlier) y ≡ false) (lsns_of turn) (lsns_of ahead) (not_among (lsns_of earlier) (lsns_of turn ++ lsns_of ahead) (distinct_parts log name rows earlier turn ahead at)))
 
 -- each is that of a row now
 turn_present : (log : List Rec) (name : List ℕ) (rows earlier turn ahead : List Seen) → IsAtTurn log name rows earlier turn ahead
     → AllByRecursion (IsRowNow log name) (lsns_of turn)
 turn_present log name rows earlier turn ahead at =
     rows_now log name turn (every_front (λ (s : Seen). state_at log name s.key ≡ Some (s.row, s.lsn)) turn ahead
-      (every_back (λ (s : Seen). state_at log name s.key ≡ Some (s.row, s.lsn)) earlier (turn ++ ahead) (stored_parts log name rows earlier turn ahead at)))
+    (every_back (λ (s : Seen). state_at log name s.key ≡ Some (s.row, s.lsn)) earlier (turn ++ ahead) (stored_parts log name rows earlier turn ahead at)))
 
 -- where nothing is ahead, each row now was seen
 saw_all : (log : List Rec) (name : List ℕ) (rows earlier turn ahead : List Seen) → IsAtTurn log name rows earlier turn ahead → ahead ≡ []
@@ -195,15 +197,15 @@ covered_at_end log mark name rows earlier turn ahead at none within =
     let parts : earlier ++ (turn ++ ahead) ≡ earlier ++ turn = ap (λ l. earlier ++ (turn ++ l)) none ∙ ap (λ l. earlier ++ l) (append-nil turn) in
     let all = rows_now log name (earlier ++ turn) (subst (AreStored log name) parts (stored_parts log name rows earlier turn ahead at)) in
     covers_whole log mark (lsns_of earlier ++ lsns_of turn) name within
-      (subst (AllByRecursion (IsRowNow log name)) (map-append (λ (s : Seen). s.lsn) earlier turn) all)
-      (saw_all log name rows earlier turn ahead at none)
+    (subst (AllByRecursion (IsRowNow log name)) (map-append (λ (s : Seen). s.lsn) earlier turn) all)
+    (saw_all log name rows earlier turn ahead at none)
 
 -- where a row is ahead, it wasn't seen
 not_all : (log : List Rec) (name : List ℕ) (rows earlier turn : List Seen) (s : Seen) (ahead : List Seen) → IsAtTurn log name rows earlier turn (s ∷ ahead)
     → SawAll log (lsns_of earlier ++ lsns_of turn) name → ⊥
 not_all log name rows earlier turn s ahead at saw =
     let behind = every_back (λ (t : Seen). state_at log name t.key ≡ Some (t.row, t.lsn)) turn (s ∷ ahead)
-      (every_back (λ (t : Seen). state_at log name t.key ≡ Some (t.row, t.lsn)) earlier (turn ++ (s ∷ ahead)) (stored_parts log name rows earlier turn (s ∷ ahead) at)) in
+    (every_back (λ (t : Seen). state_at log name t.key ≡ Some (t.row, t.lsn)) earlier (turn ++ (s ∷ ahead)) (stored_parts log name rows earlier turn (s ∷ ahead) at)) in
     let parts = subst (IsDistinct nat_eq) (sym (append_assoc (lsns_of earlier) (lsns_of turn) (lsns_of (s ∷ ahead)))) (distinct_parts log name rows earlier turn (s ∷ ahead) at) in
     let missed = not_among (lsns_of earlier ++ lsns_of turn) (lsns_of (s ∷ ahead)) parts in
     false≢true (sym missed.0 ∙ saw s.key s.row s.lsn behind.0)
@@ -246,17 +248,17 @@ walk_from log name source cursor count n walked is meets ahead walks =
       meets = meets;
       hands_out = walks.hands_out ∙ ap (take n) ahead;
       over = λ t. sym leaves ∙ walks.is_over.0 t;
-      not_over = λ f none. true≢false (sym (walks.is_over.1 (leaves ∙ none)) ∙ f)
+      not_over = λ f none. true≢false (sym (walks.is_over.1 (leaves ∙ none)) ∙ f);
     }
 
 -- the parts at a turn
 at_turn : (log : List Rec) (name : List ℕ) (rows : List Seen) (count n : ℕ) (walked : Walked) → IsWalkFrom log name rows count n walked
     → IsAtTurn log name rows (take count rows) walked.seen (drop n (drop count rows))
 at_turn log name rows count n walked walk = record {
-    whole = sym (take-append-drop count rows) ∙ ap (λ l. take count rows ++ l) (sym (take-append-drop n (drop count rows)) ∙ ap (λ l. l ++ drop n (drop count rows)) (sym walk.hands_out));
-    sorted = walk.sorted;
-    meets = walk.meets
-  }
+  whole = sym (take-append-drop count rows) ∙ ap (λ l. take count rows ++ l) (sym (take-append-drop n (drop count rows)) ∙ ap (λ l. l ++ drop n (drop count rows)) (sym walk.hands_out));
+  sorted = walk.sorted;
+  meets = walk.meets;
+}
 
 -- a turn that isn't the last doesn't end its side
 not_ended : (log : List Rec) (name : List ℕ) (rows : List Seen) (count n : ℕ) (walked : Walked) → IsWalkFrom log name rows count n walked → walked.over ≡ false
@@ -303,7 +305,7 @@ turn_over o past log began name rows count n walked scanning side same has mark 
       present = rw (← same) (turn_present log name rows earlier walked.seen ahead at);
       ends = rw (← same, saw) (λ ends last. by walked.over refl ends);
       last_side = λ t. last_of_one (started past) began name has;
-      covered = rw (← same, saw) (λ t. covered_at_end log (mark_of (started past)) name rows earlier walked.seen ahead at (walk.over t) (omega arith))
+      covered = rw (← same, saw) (λ t. covered_at_end log (mark_of (started past)) name rows earlier walked.seen ahead at (walk.over t) (omega arith));
     }
   where
     by : (b : Bool) → walked.over ≡ b → EndsSide log n (lsns_of walked.seen) (lsns_of (take count rows) ++ lsns_of walked.seen) name → IsTrue walked.over
@@ -326,7 +328,7 @@ scanned_at o past log tables new_tables alive count spec cursor n name source wa
     record {
       source_one = record { is_started = scanning.under_way.is_started; one = one };
       seen_first = first;
-      walk = walk_from log name source cursor first.count n walked is (found_meets o.catalog log tables name source kept.tables_meet named) first.ahead walks
+      walk = walk_from log name source cursor first.count n walked is (found_meets o.catalog log tables name source kept.tables_meet named) first.ahead walks;
     }
 
 -- the turn that the machine takes is allowed
@@ -347,21 +349,21 @@ effect-scanned answer side lsns last is = rw is
 under_way-saw : (o : Opening) (past : List Entry) (log : List Rec) (spec : Option Spec) (s : Started) (e : Entry) (lsns : List ℕ) (last : Bool) → IsUnderWay o past log spec s → effect e.reply ≡ Sees lsns last
     → IsUnderWay o (e ∷ past) log spec s
 under_way-saw o past log spec s e lsns last u sees = record {
-    is_started = rw sees u.is_started;
-    is_spec = u.is_spec;
-    blocking = u.blocking;
-    shaped = u.shaped;
-    fits = u.fits;
-    mark = u.mark;
-    position = rw sees u.position
-  }
+  is_started = rw sees u.is_started;
+  is_spec = u.is_spec;
+  blocking = u.blocking;
+  shaped = u.shaped;
+  fits = u.fits;
+  mark = u.mark;
+  position = rw sees u.position;
+}
 
 clients_meet-saw : (past : List Entry) (alive : Option ℕ) (count : ℕ) (e : Entry) (lsns : List ℕ) (last : Bool) → ClientsMeet past alive count → effect e.reply ≡ Sees lsns last → ClientsMeet (e ∷ past) alive count
 clients_meet-saw past alive count e lsns last meets sees = record {
-    living = rw sees meets.living;
-    begun = rw sees meets.begun;
-    few = (let few = meets.few in omega arith)
-  }
+  living = rw sees meets.living;
+  begun = rw sees meets.begun;
+  few = (let few = meets.few in omega arith);
+}
 
 -- the last turn of a scan
 pub kept-scan_ended : (o : Opening) (past : List Entry) (log : List Rec) (tables new_tables : List NamedTable) (alive : Option ℕ) (count : ℕ) (spec : Option Spec) (cursor place : Option (List Value)) (lsns : List ℕ) (last : Bool) (e : Entry)
@@ -375,10 +377,13 @@ kept-scan_ended o past log tables new_tables alive count spec cursor place lsns 
       tables_meet = kept.tables_meet;
       clients_meet = clients_meet-saw past alive count e lsns true kept.clients_meet sees;
       phase_is = rw sees;
-      transform_meets = (record {
-        began = kept.transform_meets.0.began;
-        under_way = under_way-saw o past log spec kept.transform_meets.0.began e lsns true kept.transform_meets.0.under_way sees
-      }, kept.transform_meets.1)
+      transform_meets = (
+        record {
+          began = kept.transform_meets.0.began;
+          under_way = under_way-saw o past log spec kept.transform_meets.0.began e lsns true kept.transform_meets.0.under_way sees;
+        },
+        kept.transform_meets.1,
+      );
     }
 
 -- behind a turn that didn't end its side the next turn has the same side
@@ -389,6 +394,7 @@ next_side-on o past e n lsns last is event over side turn = rw (is, event) (inl 
   where
     inside : (x y : List ℕ) → Some x ≡ Some y → x ≡ y
     inside x y h = cc
+
     one : (table : List ℕ) → side_table (started past) 0 ≡ Some table → table ≡ turn.table
     one table h = inside table turn.table (sym h ∙ turn.of_side)
 
@@ -402,9 +408,9 @@ saw_on past source cursor n walked last e first sees is walks =
       count = first.count + n;
       ahead = walk_leaves rows cursor n walked is.sorted walks ∙ ap (drop n) first.ahead ∙ drop-drop n first.count rows;
       saw = rw (sees, first.saw)
-        (ap (λ l. lsns_of (take first.count rows) ++ lsns_of l) (walks.hands_out ∙ ap (take n) first.ahead)
+          (ap (λ l. lsns_of (take first.count rows) ++ lsns_of l) (walks.hands_out ∙ ap (take n) first.ahead)
           ∙ sym (map-append (λ (s : Seen). s.lsn) (take first.count rows) (take n (drop first.count rows)))
-          ∙ ap lsns_of (sym (take-add first.count n rows)))
+          ∙ ap lsns_of (sym (take-add first.count n rows)));
     }
 
 -- a turn that isn't the last
@@ -425,22 +431,26 @@ kept-scan_on o past log tables new_tables alive count spec cursor n name source 
       tables_meet = kept.tables_meet;
       clients_meet = clients_meet-saw past alive count e lsns false kept.clients_meet sees;
       phase_is = rw sees kept.phase_is;
-      transform_meets = (record {
-        began = scanning.began;
-        under_way = under_way-saw o past log spec scanning.began e lsns false scanning.under_way sees;
-        next_side = next_side-on o past e n lsns walked.over answer event over side turn;
-        saw = λ other relation other_one other_named. by sees other relation other_one other_named
-      }, kept.transform_meets.1)
+      transform_meets = (
+        record {
+          began = scanning.began;
+          under_way = under_way-saw o past log spec scanning.began e lsns false scanning.under_way sees;
+          next_side = next_side-on o past e n lsns walked.over answer event over side turn;
+          saw = λ other relation other_one other_named. by sees other relation other_one other_named;
+        },
+        kept.transform_meets.1,
+      );
     }
   where
     inside : (x y : Relation) → Some x ≡ Some y → x ≡ y
     inside x y h = cc
+
     by : effect e.reply ≡ Sees (lsns_of walked.seen) false → (other : List ℕ) (relation : Relation) → sources_of kept.transform_meets.0.began.spec ≡ other ∷ [] → table_named tables other ≡ Some relation → SawFirst (e ∷ past) relation.rows walked.next
     by sees other relation other_one other_named =
         let name_is : other ≡ name = inside_name other name (sym other_one ∙ one) in
         let relation_is : source ≡ relation = inside source relation (sym named ∙ ap (table_named tables) (sym name_is) ∙ other_named) in
         subst (λ (r : Relation). SawFirst (e ∷ past) r.rows walked.next) relation_is
-          (saw_on past source cursor n walked false e (kept.transform_meets.0.saw name source one named) sees is walks)
+        (saw_on past source cursor n walked false e (kept.transform_meets.0.saw name source one named) sees is walks)
       where
         inside_name : (x y : List ℕ) → ◌≡◌ {A = List (List ℕ)} (x ∷ []) (y ∷ []) → x ≡ y
         inside_name x y h = cc

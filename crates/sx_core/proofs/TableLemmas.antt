@@ -62,7 +62,7 @@ meets_named (c ∷ catalog) log (t ∷ tables) name d meets is = by (same_name c
           relation = t.table;
           found = rw here refl;
           schema = meets.0.schema ∙ ap (λ (x : Declared). x.schema) one;
-          rows = λ key. meets.0.rows key ∙ ap (λ n. state_at log n key) (same_name_tells c.name name named)
+          rows = λ key. meets.0.rows key ∙ ap (λ n. state_at log n key) (same_name_tells c.name name named);
         }
     by false other again =
         let rest = again other in
@@ -108,7 +108,6 @@ values_eq-sym key other = ap is_eq (values_total.antisymm key other) ∙ by (val
     by Equal = refl
     by Greater = refl
 
-
 pub admitted_rows : (layout : Layout) (rows : List Seen) → AllByRecursion (IsRowOf layout) rows → AllByRecursion (Admits layout) (map (λ (s : Seen). s.row) rows)
 admitted_rows layout [] each = tt
 admitted_rows layout (s ∷ rows) each = (each.0.admitted, admitted_rows layout rows each.1)
@@ -142,7 +141,7 @@ rows_meet log name source is meets =
     record {
       admitted = admitted_rows source.schema source.rows each;
       in_order = subst (IsStrictlySortedBy values_cmp) (keys_of_rows source.schema source.rows each) is.sorted;
-      same = λ key. row_of_key-rows source.schema source.rows key each ∙ ap (option_map (λ (p : Stored). p.0)) (meets key)
+      same = λ key. row_of_key-rows source.schema source.rows key each ∙ ap (option_map (λ (p : Stored). p.0)) (meets key);
     }
 
 -- the one source of a transformation, with its table

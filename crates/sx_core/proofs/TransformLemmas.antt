@@ -166,7 +166,7 @@ switched_rows : (log : List Rec) (table : List ℕ) (layout : Layout) (rows : Li
 switched_rows log table layout rows are = record {
   admitted = are.admitted;
   in_order = are.in_order;
-  same = λ key. are.same key ∙ ap (option_map (λ (s : List Value × ℕ). s.0)) (sym (state-switch log 0 table key))
+  same = λ key. are.same key ∙ ap (option_map (λ (s : List Value × ℕ). s.0)) (sym (state-switch log 0 table key));
 }
 
 -- a scan turn: the machine that it leaves
@@ -208,10 +208,10 @@ kept-drained o past journal log tables new_tables alive count now spec cursor m 
       clients_meet = record {
         living = rw told kept.clients_meet.living;
         begun = rw told kept.clients_meet.begun;
-        few = (let few = kept.clients_meet.few in omega arith)
+        few = (let few = kept.clients_meet.few in omega arith);
       };
       phase_is = rw (told, under.is_started, under.blocking) refl;
-      transform_meets = kept.transform_meets.1
+      transform_meets = kept.transform_meets.1;
     })
 
 -- the switch
@@ -246,7 +246,7 @@ kept-switched o past journal log longer tables new_tables fresh alive count now 
       clients_meet = record {
         living = rw told kept.clients_meet.living;
         begun = rw told kept.clients_meet.begun;
-        few = (let few = kept.clients_meet.few in omega arith)
+        few = (let few = kept.clients_meet.few in omega arith);
       };
       phase_is = rw told refl;
       transform_meets = record {
@@ -255,12 +255,15 @@ kept-switched o past journal log longer tables new_tables fresh alive count now 
         names = names ∙ ap targets_of (sym wants);
         rows = record {
           sources = map (λ (s : Seen). s.row) source.rows ∷ [];
-          are = rw at.one (record {
-            layout = source.schema;
-            declared = declared;
-            are = rw log_grown (switched_rows log at.name source.schema _ (rows_meet log at.name source relation (found_meets o.catalog log tables at.name source kept.tables_meet at.found)))
-          }, tt);
-          made = rows ∙ ap (λ w. operator o.catalog w (map (λ (s : Seen). s.row) source.rows ∷ [])) (sym wants)
-        }
-      }
+          are = rw at.one (
+            record {
+              layout = source.schema;
+              declared = declared;
+              are = rw log_grown (switched_rows log at.name source.schema _ (rows_meet log at.name source relation (found_meets o.catalog log tables at.name source kept.tables_meet at.found)));
+            },
+            tt,
+          );
+          made = rows ∙ ap (λ w. operator o.catalog w (map (λ (s : Seen). s.row) source.rows ∷ [])) (sym wants);
+        };
+      };
     })

@@ -77,7 +77,7 @@ turned o opening past journal log tables new_tables alive count now spec cursor 
       opening = same ∙ ap (λ (x : Machine). x.opening) view;
       entry = rw tells (is ∙ ap (λ (x : Machine). record { actor = actor; event = event; reply = answer } ∷ x.past) view);
       allowed = subst (λ (x : Machine). Allows x.opening x.past actor event told) view (rw tells legal.1.allowed);
-      legal = rw same kept.legal
+      legal = rw same kept.legal;
     }
 
 -- an answer that changes nothing
@@ -188,7 +188,7 @@ kept-wrote o past journal log longer tables changed new_tables alive count now s
     let entry = legal-client o past alive actor asked (reply.Done lsn) asks.kept.clients_meet.living few asks.client (asks.kept.phase_is ∙ idle) told in
     let kept = subst (λ a. IsKept o past log tables new_tables a count Idle spec cursor) lives (subst (λ p. IsKept o past log tables new_tables alive count p spec cursor) idle asks.kept) in
     rw (is, idle, grown, lives) (kept-write o past log tables new_tables changed count txn spec cursor (client_entry actor asked (reply.Done lsn)) name key before after old new kept (effect-done lsn) asks.client entry
-      (made-event o.catalog log txn asked _ made) apart found (subst (λ n. SetsRow old new key (stored n after)) counts sets) with_new)
+    (made-event o.catalog log txn asked _ made) apart found (subst (λ n. SetsRow old new key (stored n after)) counts sets) with_new)
 
 -- the opening that the fields stand for
 abbrev pub opened : List Declared → ℕ → List Rec → Opening
@@ -203,9 +203,10 @@ pub grown_kept : (catalog : List Declared) (loads : ℕ) (journal : List Entry) 
     → loads ≤ length log → longer ≡ r ∷ log
     → IsKept (opened catalog loads log) journal longer tables new_tables alive count now spec cursor
     → (loads ≤ length longer) × IsKept (opened catalog loads longer) journal longer tables new_tables alive count now spec cursor
-grown_kept catalog loads journal log longer r tables new_tables alive count now spec cursor within grown kept =
-    (rw grown (omega arith),
-     subst (λ (o : Opening). IsKept o journal longer tables new_tables alive count now spec cursor) (sym (opened-more catalog loads log longer r within grown)) kept)
+grown_kept catalog loads journal log longer r tables new_tables alive count now spec cursor within grown kept = (
+  rw grown (omega arith),
+  subst (λ (o : Opening). IsKept o journal longer tables new_tables alive count now spec cursor) (sym (opened-more catalog loads log longer r within grown)) kept,
+)
 
 -- the next LSN of the machine
 pub next-of : (o : Opening) (past : List Entry) (log : List Rec) (tables new_tables : List NamedTable) (alive : Option ℕ) (count : ℕ) (now : Phase) (spec : Option Spec) (cursor : Option (List Value)) (m : Machine) (lsn : ℕ)

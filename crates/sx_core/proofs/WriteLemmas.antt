@@ -44,9 +44,10 @@ meet-others (d ∷ catalog) log (t ∷ tables) txn name key before after others 
   record {
     name = meets.0.name;
     schema = meets.0.schema;
-    rows = λ q. meets.0.rows q ∙ sym (state-other log txn name key before after d.name q (ap (same_name name) (sym meets.0.name) ∙ others.0))
+    rows = λ q. meets.0.rows q ∙ sym (state-other log txn name key before after d.name q (ap (same_name name) (sym meets.0.name) ∙ others.0));
   },
-  meet-others catalog log tables txn name key before after others.1 meets.1)
+  meet-others catalog log tables txn name key before after others.1 meets.1,
+)
 meet-others [] log (t ∷ tables) txn name key before after others meets = meets
 meet-others (d ∷ catalog) log [] txn name key before after others meets = meets
 
@@ -88,17 +89,23 @@ tables_meet-write (d ∷ catalog) log (t ∷ tables) txn name key before after o
         let named = same_name_tells t.name name is in
         let declared : d.name ≡ name = sym meets.0.name ∙ named in
         let here : t.table ≡ old = first_is t.table old (same_name t.name name) (table_named tables name) is found in
-        rw is (record {
-          name = meets.0.name;
-          schema = sets.same_schema ∙ sym (ap (λ (r : Relation). r.schema) here) ∙ meets.0.schema;
-          rows = λ q. written_rows log txn name key before after old new d.name q declared sets (ap (λ (r : Relation). row_at r.rows q) (sym here) ∙ meets.0.rows q)
-        }, meet-others catalog log tables txn name key before after (subst (λ (n : List ℕ). AllByRecursion (λ other. same_name n other ≡ false) (names_of_tables tables)) named apart.0) meets.1)
+        rw is (
+          record {
+            name = meets.0.name;
+            schema = sets.same_schema ∙ sym (ap (λ (r : Relation). r.schema) here) ∙ meets.0.schema;
+            rows = λ q. written_rows log txn name key before after old new d.name q declared sets (ap (λ (r : Relation). row_at r.rows q) (sym here) ∙ meets.0.rows q);
+          },
+          meet-others catalog log tables txn name key before after (subst (λ (n : List ℕ). AllByRecursion (λ other. same_name n other ≡ false) (names_of_tables tables)) named apart.0) meets.1,
+        )
     by false is again =
         let declared : same_name name d.name ≡ false = not_same name d.name (λ same. absurd (false≢true (sym is ∙ ap (λ n. same_name n name) (meets.0.name ∙ sym same) ∙ same_name-refl name))) in
-        rw is (record {
-          name = meets.0.name;
-          schema = meets.0.schema;
-          rows = λ q. meets.0.rows q ∙ sym (state-other log txn name key before after d.name q declared)
-        }, again is)
+        rw is (
+          record {
+            name = meets.0.name;
+            schema = meets.0.schema;
+            rows = λ q. meets.0.rows q ∙ sym (state-other log txn name key before after d.name q declared);
+          },
+          again is,
+        )
 tables_meet-write [] log (t ∷ tables) txn name key before after old new apart found sets meets = absurd meets
 tables_meet-write (d ∷ catalog) log [] txn name key before after old new apart found sets meets = meets

@@ -6,11 +6,9 @@ mod exchange;
 mod found;
 mod machine;
 mod make;
-mod propagator;
 mod rows;
 mod turns;
 
 pub use machine::{Core, CoreFault};
 pub use make::MakeFault;
 pub use sx_log::{Load, Loads};
-

@@ -4,8 +4,6 @@
 mod seen;
 mod table;
 mod tables;
-#[cfg(test)]
-mod tests;
 mod walk;
 
 pub use seen::{Seen, Seens};

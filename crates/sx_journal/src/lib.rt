@@ -5,7 +5,6 @@ mod copies;
 mod entry;
 
 pub use entry::{Entry, Event, Reply, Request, What};
-
 use sx_lists::Reserved;
 
 /// The journal, seen newest first. Entries count from 1.

@@ -4,7 +4,6 @@
 mod record;
 
 pub use record::{Body, Load, Rec};
-
 use sx_lists::{List, Reserved};
 
 /// Loaded rows, in order.

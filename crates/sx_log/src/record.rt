@@ -35,7 +35,10 @@ pub enum Body {
     /// A transformation started.
     Mark,
     /// The rows of a group agreed on these dependent values.
-    Check { group: Key, dep: Key },
+    Check {
+        group: Key,
+        dep: Key,
+    },
     /// The new tables became visible.
     Switch,
 }

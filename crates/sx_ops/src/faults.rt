@@ -50,11 +50,7 @@ fn has_name(columns: &[Column], name: &Name) -> bool
 }
 
 // Compares the kind of each test's constant with that of its column. The first test has this place.
-pub(crate) fn check_types(
-    place: u64,
-    columns: &[Column],
-    tests: &[Test],
-) -> Result<(), SpecFault>
+pub(crate) fn check_types(place: u64, columns: &[Column], tests: &[Test]) -> Result<(), SpecFault>
     requires { place + length tests.now < 2 ^ 64 }
     ensures { Refuses (types_fault place columns.now tests.now) result }
 {

@@ -36,4 +36,4 @@ write-requires-clause-change c =
     let there = subst (λ (b : Option (List Value)). KeyMeets m.opening m.past c.args.table c.args.key b) c.in-Some.is at.1 in
     let change = delete-change m.opening m.past c.args.actor c.args.txn c.args.table c.args.key c.in-Some.before c.requires.inside there in
     subst (λ (n : List ℕ). IsChange m.opening m.past c.args.actor c.args.txn (Delete c.args.table c.args.key) n c.in-At.at (Some c.in-Some.before) None) (sym c.in_ok-name-in-Some.ensures)
-      (subst (λ (k : List Value). IsChange m.opening m.past c.args.actor c.args.txn (Delete c.args.table c.args.key) c.args.table k (Some c.in-Some.before) None) (sym at.0) change)
+    (subst (λ (k : List Value). IsChange m.opening m.past c.args.actor c.args.txn (Delete c.args.table c.args.key) c.args.table k (Some c.in-Some.before) None) (sym at.0) change)

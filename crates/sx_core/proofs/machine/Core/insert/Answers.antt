@@ -36,4 +36,4 @@ write-requires-clause-change c =
     let free = subst (λ (b : Option (List Value)). RowMeets m.opening m.past c.args.table c.args.row c.in-At.key b) c.in-None.is at in
     let change = insert-change m.opening m.past c.args.actor c.args.txn c.args.table c.args.row c.in-At.key c.requires.inside free in
     subst (λ (n : List ℕ). IsChange m.opening m.past c.args.actor c.args.txn (Insert c.args.table c.args.row) n c.in-At.key None (Some c.in_ok-after-in-None.after)) (sym c.in_ok-name-in-None.ensures)
-      (subst (λ (r : List Value). IsChange m.opening m.past c.args.actor c.args.txn (Insert c.args.table c.args.row) c.args.table c.in-At.key None (Some r)) (sym c.in_ok-after-in-None.ensures) change)
+    (subst (λ (r : List Value). IsChange m.opening m.past c.args.actor c.args.txn (Insert c.args.table c.args.row) c.args.table c.in-At.key None (Some r)) (sym c.in_ok-after-in-None.ensures) change)

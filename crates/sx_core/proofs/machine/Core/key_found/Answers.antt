@@ -10,4 +10,4 @@ returns-clause-found c =
     let kept = c.self.invariant.1 in
     let found = c.in_ok-of_key.field-0 in
     subst (λ (m : Machine). MeetsKey m.opening m.past c.args.table.now c.args.key.now found) c.self.view_is
-      (meets_key _ i.journal.newest i.log.newest i.tables c.args.table.now c.args.key.now found kept.log_is kept.tables_meet c.in_ok-of_key.ensures)
+    (meets_key _ i.journal.newest i.log.newest i.tables c.args.table.now c.args.key.now found kept.log_is kept.tables_meet c.in_ok-of_key.ensures)

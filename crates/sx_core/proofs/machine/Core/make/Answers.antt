@@ -30,13 +30,13 @@ loop-load-preserved c =
     let l = c.loop-load in
     record {
       loading =
-        loading_goes_on c.args.catalog c.args.rows (into_iter_items l.load-iterator) l.log.newest c.put_load.new.log.newest l.tables c.put_load.new.tables c.in-Some.load (into_iter_items c.next.new.self)
+          loading_goes_on c.args.catalog c.args.rows (into_iter_items l.load-iterator) l.log.newest c.put_load.new.log.newest l.tables c.put_load.new.tables c.in-Some.load (into_iter_items c.next.new.self)
           l.invariant.loading c.in-Some.ensures.steps.0 c.in_ok-put_load.ensures.apart c.in_ok-put_load.ensures.ok;
       left =
-        let was = l.invariant.left in
-        let gone = c.in-Some.ensures.steps.1 in
-        let short = ap length c.in-Some.ensures.steps.0 in
-        omega arith;
+          let was = l.invariant.left in
+          let gone = c.in-Some.ensures.steps.1 in
+          let short = ap length c.in-Some.ensures.steps.0 in
+          omega arith;
     }
 
 pub invariant_of-result : goal.invariant_of-result

@@ -7,7 +7,7 @@ note-requires c = record {
   idle = c.requires.idle;
   room = c.requires.room;
   answered = no_txn-answered c.args.self.now.opening c.args.self.now.past c.args.actor c.args.request c.requires.outside c.in_default.not-Begin;
-  quiet = quiet-no_txn
+  quiet = quiet-no_txn;
 }
 
 pub returns-in_default : goal.returns-in_default

@@ -10,4 +10,4 @@ returns-clause-found c =
     let kept = c.self.invariant.1 in
     let found = c.in_ok-of_row.field-0 in
     subst (λ (m : Machine). MeetsRow m.opening m.past c.args.table.now c.args.row.now found) c.self.view_is
-      (meets_row _ i.journal.newest i.log.newest i.tables c.args.table.now c.args.row.now found kept.log_is kept.tables_meet c.in_ok-of_row.ensures)
+    (meets_row _ i.journal.newest i.log.newest i.tables c.args.table.now c.args.row.now found kept.log_is kept.tables_meet c.in_ok-of_row.ensures)

@@ -36,4 +36,4 @@ write-requires-clause-change c =
     let there = subst (λ (b : Option (List Value)). RowMeets m.opening m.past c.args.table c.args.row c.in-At.key b) c.in-Some.is at in
     let change = update-change m.opening m.past c.args.actor c.args.txn c.args.table c.args.row c.in-At.key c.in-Some.before c.requires.inside there in
     subst (λ (n : List ℕ). IsChange m.opening m.past c.args.actor c.args.txn (Update c.args.table c.args.row) n c.in-At.key (Some c.in-Some.before) (Some c.in_ok-after-in-Some.after)) (sym c.in_ok-name-in-Some.ensures)
-      (subst (λ (r : List Value). IsChange m.opening m.past c.args.actor c.args.txn (Update c.args.table c.args.row) c.args.table c.in-At.key (Some c.in-Some.before) (Some r)) (sym c.in_ok-after-in-Some.ensures) change)
+    (subst (λ (r : List Value). IsChange m.opening m.past c.args.actor c.args.txn (Update c.args.table c.args.row) c.args.table c.in-At.key (Some c.in-Some.before) (Some r)) (sym c.in_ok-after-in-Some.ensures) change)
