@@ -1,14 +1,8 @@
 // Records, words and numbers with answers known beforehand.
-ghost use Rattle.std.specs.Prelude.{◌≡◌, ◌∷◌, [], IfOk, IsTrue};
-ghost use Rattle.std.specs.List.{list_all};
-ghost use Rattle.sx_values.specs.Texts.{is_printable};
-
 use crate::*;
 use std::alloc::Global;
-use std::process::Abort;
 use std::test::Fail;
-use sx_lists::List;
-use sx_values::{Column, Columns, Key, Kind, Name, Numbers, Row, Schema, Text, Value};
+use sx_values::{Column, Columns, Kind, Name, Numbers, Row, Schema, Text, Value};
 
 // An Int column `id`, which is the key, and a Text column `note`, which may be Null.
 fn notes(alloc: Global) -> Result<Schema, Fail> {
