@@ -1,3 +1,4 @@
+pub mod EventLemmas
 pub mod ExchangeLemmas
 pub mod KeptLemmas
 pub mod MakeLemmas

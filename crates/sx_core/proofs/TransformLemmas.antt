@@ -131,7 +131,7 @@ source_named tables (Union left right into) source shaped found = absurd shaped
 some_one : (a b : Relation) (o : Option Relation) → o ≡ Some a → o ≡ Some b → a ≡ b
 some_one a b o p q = let e : Some a ≡ Some b = sym p ∙ q in cc
 
-one_name : (a b : List ℕ) (names : List (List ℕ)) → names ≡ a ∷ [] → names ≡ b ∷ [] → a ≡ b
+pub one_name : (a b : List ℕ) (names : List (List ℕ)) → names ≡ a ∷ [] → names ≡ b ∷ [] → a ≡ b
 one_name a b names p q = let e : a ∷ [] ≡ b ∷ [] = sym p ∙ q in cc
 
 -- the source's schema is the declared one

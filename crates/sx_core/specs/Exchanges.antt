@@ -1,5 +1,5 @@
 -- What a switch makes the new tables of.
-use Rattle.std.specs.Prelude.{⊤, ℕ, List, [], ◌∷◌, map, Option, Some, None}
+use Rattle.std.specs.Prelude.{◌≡◌, ⊤, ℕ, List, [], ◌∷◌, map, Option, Some, None}
 use Rattle.std.specs.List.{AllByRecursion}
 use Rattle.std.specs.List.Sorted.{IsStrictlySortedBy}
 use Rattle.sx_values.specs.declared.value.Value.{Value}
@@ -9,8 +9,13 @@ use Rattle.sx_values.specs.Layouts.{Layout, Admits, key_of}
 use Rattle.sx_values.specs.Catalogs.{schema_of}
 use Rattle.sx_heap.specs.declared.seen.Seen.{Seen}
 use Rattle.sx_heap.specs.declared.tables.NamedTable.{NamedTable}
-use Rattle.sx_heap.specs.Relations.{Relation}
-use Rattle.sx_heap.specs.NamedTables.{table_named}
+use Rattle.sx_heap.specs.Relations.{Relation, IsRelation}
+use Rattle.sx_heap.specs.Walks.{WalksOn}
+use Rattle.sx_heap.specs.declared.walk.Walked.{Walked}
+use Rattle.sx_ops.specs.Checks.{IsShaped, spec_fault}
+use Rattle.sx_ops.specs.Operators.{targets_of, operator}
+use Rattle.sx_core.specs.Kept.{plain_rows}
+use Rattle.sx_heap.specs.NamedTables.{table_named, names_of_tables}
 use Rattle.sx_ops.specs.declared.spec.Spec.{Spec}
 use Rattle.sx_ops.specs.declared.spec.Spec.TheVariants.{Join, Split, Part, Union}
 use Rattle.sx_ops.specs.declared.spec.Target.{Target}
@@ -53,3 +58,28 @@ FillTargets [] [] = ⊤
 FillTargets (target ∷ targets) (rows ∷ lists) = AreInOrder target.schema rows × FillTargets targets lists
 FillTargets [] (rows ∷ lists) = ⊥
 FillTargets (target ∷ targets) [] = ⊥
+
+-- a walk in a table behind a cursor
+pub record WalksIn (cursor : Option (List Value)) (n : ℕ) (walked : Walked) (source : Relation) : Type 0 where
+  pub relation : IsRelation source
+  pub walks : WalksOn source.rows cursor n walked
+
+-- a transformation that fits, with its source among the tables
+pub record CanExchange (catalog : List Declared) (given : Option Spec) (tables : List NamedTable) : Type 0 where
+  pub wanted : Spec
+  pub is : given ≡ Some wanted
+  pub shaped : IsShaped wanted
+  pub fits : spec_fault catalog wanted ≡ None
+  pub source : Relation
+  pub found : source_table given tables ≡ Some source
+  pub declared : source_schema catalog wanted ≡ Some source.schema
+
+-- the new tables of a transformation, made of its source
+pub record IsExchange (catalog : List Declared) (given : Option Spec) (tables fresh : List NamedTable) : Type 0 where
+  pub wanted : Spec
+  pub is : given ≡ Some wanted
+  pub source : Relation
+  pub found : source_table given tables ≡ Some source
+  pub relation : IsRelation source
+  pub names : names_of_tables fresh ≡ targets_of wanted
+  pub rows : plain_rows fresh ≡ operator catalog wanted (bare_rows source.rows ∷ [])

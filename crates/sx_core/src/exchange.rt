@@ -41,6 +41,7 @@ pub(crate) fn new_tables(
     requires shaped { IsShaped spec.now }
     requires fits { spec_fault catalog.now spec.now ≡ None }
     requires declared { source_schema catalog.now spec.now ≡ Some source.now.schema }
+    ensures relation { IsRelation source.now }
     ensures names { IfOk result (λ tables. names_of_tables tables ≡ targets_of spec.now) }
     ensures rows { IfOk result (λ tables. plain_rows tables
         ≡ operator catalog.now spec.now (bare_rows source.now.rows ∷ [])) }

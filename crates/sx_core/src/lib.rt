@@ -6,6 +6,7 @@ mod exchange;
 mod found;
 mod machine;
 mod make;
+mod propagator;
 mod rows;
 mod turns;
 

@@ -37,6 +37,7 @@ returns c =
     let one = one_source c.push.new.self c.new-sources.result c.in_ok-rows_of.field-0 c.in_ok-walked.walked.seen source.rows c.in_ok-push.ensures.ok c.new-sources.ensures c.in_ok-rows_of.ensures whole in
     let splits = splits_into c.args.catalog.now c.args.spec.now source c.len.ensures.relation c.requires.shaped c.requires.fits c.requires.declared in
     record {
+      relation = c.len.ensures.relation;
       names = subst (λ names. IfOk c.filled_tables.result (λ (tables : List NamedTable). names_of_tables tables ≡ names)) (ap target_names c.in_ok-targets.ensures ∙ splits.names) c.filled_tables.ensures.names;
       rows = subst (λ lists. IfOk c.filled_tables.result (λ (tables : List NamedTable). plain_rows tables ≡ lists)) (c.in_ok-lists.ensures ∙ ap (operator c.args.catalog.now c.args.spec.now) one) c.filled_tables.ensures.rows;
     }
