@@ -1,0 +1,379 @@
+-- The rows of the new tables: filled in key order, and those of the source before.
+use Rattle.std.proofs.Common.{◌≡◌, ◌∷◌, ◌++◌, ◌||◌, ◌⊎◌, [], ℕ, List, Bool, true, false, cond, map, filter, not, Option, Some, None, option_map, inl, inr, length, reverse, take, nat_eq, arith, refl, sym, ◌∙◌, ap, subst}
+use Rattle.std.specs.List.{AllByRecursion, IsDistinct}
+use Rattle.std.specs.List.Sorted.{IsStrictlySortedBy}
+use Rattle.std.specs.Ordering.{is_eq, ordering_reverse}
+use Rattle.std.specs.declared.cmp.Ordering.{Ordering}
+use Rattle.std.specs.declared.cmp.Ordering.TheVariants.{Less, Equal, Greater}
+use Rattle.std.proofs.lemmas.Bool.Decides.{nat_tests}
+use Rattle.std.proofs.lemmas.List.{append_assoc, append-nil, map-append, reverse-append}
+use Rattle.std.proofs.lemmas.List.Elements.{All-from_recursion, recursion_from_All}
+use Rattle.std.proofs.Math.Seq.{take-length}
+use Rattle.std.proofs.lemmas.Map.Keys.{IsDistinct-from_sorted}
+use Rattle.sx_lists.specs.Answers.{or_later}
+use Rattle.sx_values.specs.declared.value.Value.{Value}
+use Rattle.sx_values.specs.declared.catalog.Declared.{Declared}
+use Rattle.sx_values.specs.Values.{values_cmp}
+use Rattle.sx_values.specs.Layouts.{Layout, Admits, key_of, row_fault}
+use Rattle.sx_values.specs.Names.{same_name}
+use Rattle.sx_values.specs.Catalogs.{schema_of, declared_as}
+use Rattle.sx_heap.specs.declared.seen.Seen.{Seen}
+use Rattle.sx_heap.specs.declared.tables.NamedTable.{NamedTable}
+use Rattle.sx_heap.specs.Relations.{Relation, IsRelation, IsRowOf, SetsRow, row_at, row_keys, same_key}
+use Rattle.sx_heap.specs.NamedTables.{LacksKeyOf, table_named, names_of_tables}
+use Rattle.sx_heap.specs.declared.walk.Walked.{Walked}
+use Rattle.sx_heap.specs.Walks.{WalksOn, rows_after}
+use Rattle.sx_heap.proofs.RowLemmas.{found, rows_unique, same_key_tells, rows_after-start}
+use Rattle.sx_heap.proofs.WalkLemmas.{values_total}
+use Rattle.sx_log.specs.declared.record.Rec.{Rec}
+use Rattle.sx_ops.specs.declared.spec.Spec.{Spec}
+use Rattle.sx_ops.specs.declared.spec.Spec.TheVariants.{Join, Split, Part, Union}
+use Rattle.sx_ops.specs.declared.spec.SpecFault.{SpecFault}
+use Rattle.sx_ops.specs.declared.spec.Test.{Test}
+use Rattle.sx_ops.specs.declared.spec.Target.{Target}
+use Rattle.sx_ops.specs.Checks.{IsShaped, spec_fault, part_fault, column_fault, types_fault, names_fault, is_declared}
+use Rattle.sx_ops.specs.Operators.{sources_of, targets_of, operator, passes, AreSourceRows, AreRowsOf}
+use Rattle.sx_ops.specs.Targets.{targets}
+use Rattle.sx_journal.specs.declared.entry.Entry.{Entry}
+use Rattle.sx_model.specs.Switches.{has_lock_on}
+use Rattle.sx_model.specs.Tables.{AreRowLists}
+use Rattle.sx_core.specs.Kept.{TablesMeet, plain_rows}
+use Rattle.sx_core.specs.Exchanges.{source_table, source_schema, bare_rows, target_names, AreInOrder, FillTargets}
+use Rattle.sx_core.proofs.TableLemmas.{admitted_rows, keys_of_rows, found_meets, rows_meet, meets_named}
+
+-- a row that no record put there, with its key
+abbrev pub unstamped : Layout → List Value → Seen
+unstamped schema row = record { key = key_of schema row; row = row; lsn = 0 }
+
+abbrev pub all_unstamped : Layout → List (List Value) → List Seen
+all_unstamped schema rows = map (unstamped schema) rows
+
+-- it doesn't matter which of two keys is asked for
+same_key-sym : (key other : List Value) → same_key key other ≡ same_key other key
+same_key-sym key other = ap is_eq (values_total.antisymm key other) ∙ by (values_cmp other key)
+  where
+    by : (r : Ordering) → is_eq (ordering_reverse r) ≡ is_eq r
+    by Less = refl
+    by Equal = refl
+    by Greater = refl
+
+-- a key that isn't among rows isn't the first of them
+absent_head : (b : Bool) (s : Seen) (rest : Option (List Value × ℕ)) → cond b (Some (found s)) rest ≡ None → (b ≡ false) × (rest ≡ None)
+absent_head true s rest absent = absurd (cc)
+absent_head false s rest absent = (refl, absent)
+
+-- what a key has behind one more row, whose key wasn't there
+row_at-push : (rows : List Seen) (s : Seen) (key : List Value) → row_at rows s.key ≡ None → row_at (rows ++ s ∷ []) key ≡ cond (same_key s.key key) (Some (found s)) (row_at rows key)
+row_at-push [] s key absent = ap (λ b. cond b (Some (found s)) None) (same_key-sym key s.key)
+row_at-push (x ∷ rows) s key absent =
+    let apart = absent_head (same_key s.key x.key) x (row_at rows s.key) absent in
+    by (same_key key x.key) refl apart.0 (row_at-push rows s key apart.1)
+  where
+    by : (b : Bool) → same_key key x.key ≡ b → same_key s.key x.key ≡ false → row_at (rows ++ s ∷ []) key ≡ cond (same_key s.key key) (Some (found s)) (row_at rows key)
+        → cond b (Some (found x)) (row_at (rows ++ s ∷ []) key) ≡ cond (same_key s.key key) (Some (found s)) (cond b (Some (found x)) (row_at rows key))
+    by true here other again =
+        let is : same_key s.key key ≡ false = ap (same_key s.key) (same_key_tells key x.key here) ∙ other in
+        rw is refl
+    by false there other again = again
+
+-- a key that is below a row's isn't that row's
+below_apart : (key other : List Value) → values_cmp key other ≡ Less → same_key other key ≡ false
+below_apart key other less = ap is_eq (values_total.antisymm other key ∙ ap ordering_reverse less)
+
+below_middle : (schema : Layout) (key : List Value) (done : List (List Value)) (row : List Value) (more : List (List Value))
+    → AllByRecursion (λ other. values_cmp key other ≡ Less) (map (key_of schema) (done ++ row ∷ more)) → values_cmp key (key_of schema row) ≡ Less
+below_middle schema key [] row more all = all.0
+below_middle schema key (first ∷ done) row more all = below_middle schema key done row more all.1
+
+-- in key order the key of a row isn't among those of the earlier rows
+absent_before : (schema : Layout) (done : List (List Value)) (row : List Value) (more : List (List Value))
+    → IsStrictlySortedBy values_cmp (map (key_of schema) (done ++ row ∷ more)) → row_at (all_unstamped schema done) (key_of schema row) ≡ None
+unfolding IsStrictlySortedBy
+absent_before schema [] row more sorted = refl
+absent_before schema (first ∷ done) row more sorted =
+    let apart = below_apart (key_of schema first) (key_of schema row) (below_middle schema (key_of schema first) done row more sorted.0) in
+    rw apart (absent_before schema done row more sorted.1)
+
+admitted_middle : (schema : Layout) (done : List (List Value)) (row : List Value) (more : List (List Value))
+    → AllByRecursion (Admits schema) (done ++ row ∷ more) → Admits schema row
+admitted_middle schema [] row more all = all.0
+admitted_middle schema (first ∷ done) row more all = admitted_middle schema done row more all.1
+
+-- a table that is being filled: it has the first of these rows, and the others are left
+pub record IsFilling (schema : Layout) (rows done left : List (List Value)) (table : Relation) : Type 0 where
+  pub schema_is : table.schema ≡ schema
+  pub rows_are : (key : List Value) → row_at table.rows key ≡ row_at (all_unstamped schema done) key
+  pub whole : rows ≡ done ++ left
+
+-- the next row may be put in
+pub filling_lacks : (schema : Layout) (rows done left : List (List Value)) (table : Relation) (row : List Value) (more : List (List Value))
+    → AreInOrder schema rows → IsFilling schema rows done left table → left ≡ row ∷ more → LacksKeyOf row table
+filling_lacks schema rows done left table row more order filling next =
+    let split = filling.whole ∙ ap (λ l. done ++ l) next in
+    record {
+      admitted = ap (λ s. row_fault s row) filling.schema_is ∙ admitted_middle schema done row more (subst (AllByRecursion (Admits schema)) split order.admitted);
+      absent =
+          ap (λ s. row_at table.rows (key_of s row)) filling.schema_is ∙ filling.rows_are (key_of schema row)
+          ∙ absent_before schema done row more (subst (λ l. IsStrictlySortedBy values_cmp (map (key_of schema) l)) split order.in_order);
+    }
+
+-- and is then among those that it has
+pub filling_more : (schema : Layout) (rows done left : List (List Value)) (table next : Relation) (row : List Value) (more : List (List Value))
+    → AreInOrder schema rows → IsFilling schema rows done left table → left ≡ row ∷ more → SetsRow table next (key_of table.schema row) (Some (row, 0))
+    → IsFilling schema rows (done ++ row ∷ []) more next
+filling_more schema rows done left table next row more order filling is sets =
+    let split = filling.whole ∙ ap (λ l. done ++ l) is in
+    let absent = absent_before schema done row more (subst (λ l. IsStrictlySortedBy values_cmp (map (key_of schema) l)) split order.in_order) in
+    record {
+      schema_is = sets.same_schema ∙ filling.schema_is;
+      rows_are = λ key.
+          sets.at_keys key ∙ ap (λ s. cond (same_key (key_of s row) key) (Some (row, 0)) (row_at table.rows key)) filling.schema_is
+          ∙ ap (cond (same_key (key_of schema row) key) (Some (row, 0))) (filling.rows_are key)
+          ∙ sym (row_at-push (all_unstamped schema done) (unstamped schema row) key absent)
+          ∙ ap (λ l. row_at l key) (sym (map-append (unstamped schema) done (row ∷ [])));
+      whole = split ∙ sym (append_assoc done (row ∷ []) more);
+    }
+
+keys_unstamped : (schema : Layout) (rows : List (List Value)) → row_keys (all_unstamped schema rows) ≡ map (key_of schema) rows
+keys_unstamped schema [] = refl
+keys_unstamped schema (row ∷ rows) = ap (λ l. key_of schema row ∷ l) (keys_unstamped schema rows)
+
+bare_unstamped : (schema : Layout) (rows : List (List Value)) → bare_rows (all_unstamped schema rows) ≡ rows
+bare_unstamped schema [] = refl
+bare_unstamped schema (row ∷ rows) = ap (λ l. row ∷ l) (bare_unstamped schema rows)
+
+-- at the end it has these rows in their order
+pub filling_done : (schema : Layout) (rows done left : List (List Value)) (table : Relation)
+    → AreInOrder schema rows → IsFilling schema rows done left table → left ≡ [] → IsRelation table → bare_rows table.rows ≡ rows
+filling_done schema rows done left table order filling over is =
+    let all : rows ≡ done = filling.whole ∙ ap (λ l. done ++ l) over ∙ append-nil done in
+    let sorted = subst (IsStrictlySortedBy values_cmp) (sym (keys_unstamped schema rows)) order.in_order in
+    ap bare_rows (rows_unique table.rows (all_unstamped schema rows) is.sorted sorted (λ key. filling.rows_are key ∙ ap (λ l. row_at (all_unstamped schema l) key) (sym all)))
+    ∙ bare_unstamped schema rows
+
+-- new tables that are being made: those of the first targets, and the others are left
+pub record AreFilling (targets left : List Target) (lists left_lists : List (List (List Value))) (tables : List NamedTable) : Type 0 where
+  pub names : names_of_tables tables ++ target_names left ≡ target_names targets
+  pub rows : plain_rows tables ++ left_lists ≡ lists
+  pub fill : FillTargets left left_lists
+
+unnamed : (tables : List NamedTable) (name : List ℕ) (names : List (List ℕ)) → IsDistinct same_name (names_of_tables tables ++ name ∷ names) → table_named tables name ≡ None
+unfolding IsDistinct
+unnamed [] name names apart = refl
+unnamed (t ∷ tables) name names apart = rw (other tables apart.0) (unnamed tables name names apart.1)
+  where
+    other : (rest : List NamedTable) → AllByRecursion (λ n. same_name t.name n ≡ false) (names_of_tables rest ++ name ∷ names) → same_name t.name name ≡ false
+    other [] all = all.0
+    other (u ∷ rest) all = other rest all.1
+
+-- the name of the next target is free
+pub filling_free : (targets left : List Target) (lists left_lists : List (List (List Value))) (tables : List NamedTable) (target : Target) (more : List Target)
+    → IsDistinct same_name (target_names targets) → AreFilling targets left lists left_lists tables → left ≡ target ∷ more → table_named tables target.name ≡ None
+filling_free targets left lists left_lists tables target more apart filling is =
+    unnamed tables target.name (target_names more) (subst (IsDistinct same_name) (sym filling.names ∙ ap (λ l. names_of_tables tables ++ target_names l) is) apart)
+
+fill_next : (left : List Target) (left_lists : List (List (List Value))) (target : Target) (more : List Target) (rows : List (List Value)) (more_lists : List (List (List Value)))
+    → FillTargets left left_lists → left ≡ target ∷ more → left_lists ≡ rows ∷ more_lists → FillTargets (target ∷ more) (rows ∷ more_lists)
+fill_next left left_lists target more rows more_lists fill is are = subst (λ l. FillTargets l (rows ∷ more_lists)) is (subst (FillTargets left) are fill)
+
+-- its rows are in order
+pub filling_order : (targets left : List Target) (lists left_lists : List (List (List Value))) (tables : List NamedTable) (target : Target) (more : List Target) (rows : List (List Value)) (more_lists : List (List (List Value)))
+    → AreFilling targets left lists left_lists tables → left ≡ target ∷ more → left_lists ≡ rows ∷ more_lists → AreInOrder target.schema rows
+filling_order targets left lists left_lists tables target more rows more_lists filling is are = (fill_next left left_lists target more rows more_lists filling.fill is are).0
+
+-- and its table is then among those that are made
+pub filling_next : (targets left : List Target) (lists left_lists : List (List (List Value))) (tables longer : List NamedTable) (target : Target) (more : List Target) (rows : List (List Value)) (more_lists : List (List (List Value))) (table : Relation)
+    → AreFilling targets left lists left_lists tables → left ≡ target ∷ more → left_lists ≡ rows ∷ more_lists → bare_rows table.rows ≡ rows
+    → longer ≡ tables ++ record { name = target.name; table = table } ∷ [] → AreFilling targets more lists more_lists longer
+filling_next targets left lists left_lists tables longer target more rows more_lists table filling is are has pushed =
+    let new : NamedTable = record { name = target.name; table = table } in
+    record {
+      names =
+          ap (λ l. names_of_tables l ++ target_names more) pushed
+          ∙ ap (λ l. l ++ target_names more) (map-append (λ (t : NamedTable). t.name) tables (new ∷ []))
+          ∙ append_assoc (names_of_tables tables) (target.name ∷ []) (target_names more)
+          ∙ ap (λ l. names_of_tables tables ++ target_names l) (sym is) ∙ filling.names;
+      rows =
+          ap (λ l. plain_rows l ++ more_lists) pushed
+          ∙ ap (λ l. l ++ more_lists) (map-append (λ (t : NamedTable). bare_rows t.table.rows) tables (new ∷ []))
+          ∙ append_assoc (plain_rows tables) (bare_rows table.rows ∷ []) more_lists
+          ∙ ap (λ r. plain_rows tables ++ r ∷ more_lists) has
+          ∙ ap (λ l. plain_rows tables ++ l) (sym are) ∙ filling.rows;
+      fill = (fill_next left left_lists target more rows more_lists filling.fill is are).1;
+    }
+
+-- where no target or no list is left, neither is
+neither_left : (left : List Target) (left_lists : List (List (List Value))) → FillTargets left left_lists → (left ≡ []) ⊎ (left_lists ≡ []) → (left ≡ []) × (left_lists ≡ [])
+neither_left [] [] fill over = (refl, refl)
+neither_left [] (rows ∷ lists) fill over = absurd fill
+neither_left (target ∷ targets) [] fill over = absurd fill
+neither_left (target ∷ targets) (rows ∷ lists) fill (inl none) = absurd (cc)
+neither_left (target ∷ targets) (rows ∷ lists) fill (inr none) = absurd (cc)
+
+pub record AreFilled (targets : List Target) (lists : List (List (List Value))) (tables : List NamedTable) : Type 0 where
+  pub names : names_of_tables tables ≡ target_names targets
+  pub rows : plain_rows tables ≡ lists
+
+pub filling_over : (targets left : List Target) (lists left_lists : List (List (List Value))) (tables : List NamedTable)
+    → AreFilling targets left lists left_lists tables → (left ≡ []) ⊎ (left_lists ≡ []) → AreFilled targets lists tables
+filling_over targets left lists left_lists tables filling over =
+    let none = neither_left left left_lists filling.fill over in
+    record {
+      names = sym (append-nil (names_of_tables tables)) ∙ ap (λ l. names_of_tables tables ++ target_names l) (sym none.0) ∙ filling.names;
+      rows = sym (append-nil (plain_rows tables)) ∙ ap (λ l. plain_rows tables ++ l) (sym none.1) ∙ filling.rows;
+    }
+
+-- the rows of a table are in order
+pub rows_in_order : (source : Relation) → IsRelation source → AreInOrder source.schema (bare_rows source.rows)
+rows_in_order source is =
+    let each = recursion_from_All (IsRowOf source.schema) source.rows is.each in
+    record {
+      admitted = admitted_rows source.schema source.rows each;
+      in_order = subst (IsStrictlySortedBy values_cmp) (keys_of_rows source.schema source.rows each) is.sorted;
+    }
+
+admitted-filter : (schema : Layout) (p : List Value → Bool) (rows : List (List Value)) → AllByRecursion (Admits schema) rows → AllByRecursion (Admits schema) (filter p rows)
+admitted-filter schema p [] all = tt
+admitted-filter schema p (row ∷ rows) all = by (p row) (admitted-filter schema p rows all.1)
+  where
+    by : (b : Bool) → AllByRecursion (Admits schema) (filter p rows) → AllByRecursion (Admits schema) (cond b (row ∷ filter p rows) (filter p rows))
+    by true rest = (all.0, rest)
+    by false rest = rest
+
+below-filter : (schema : Layout) (p : List Value → Bool) (key : List Value) (rows : List (List Value)) → AllByRecursion (λ other. values_cmp key other ≡ Less) (map (key_of schema) rows)
+    → AllByRecursion (λ other. values_cmp key other ≡ Less) (map (key_of schema) (filter p rows))
+below-filter schema p key [] all = tt
+below-filter schema p key (row ∷ rows) all = by (p row) (below-filter schema p key rows all.1)
+  where
+    by : (b : Bool) → AllByRecursion (λ other. values_cmp key other ≡ Less) (map (key_of schema) (filter p rows))
+        → AllByRecursion (λ other. values_cmp key other ≡ Less) (map (key_of schema) (cond b (row ∷ filter p rows) (filter p rows)))
+    by true rest = (all.0, rest)
+    by false rest = rest
+
+sorted-filter : (schema : Layout) (p : List Value → Bool) (rows : List (List Value)) → IsStrictlySortedBy values_cmp (map (key_of schema) rows) → IsStrictlySortedBy values_cmp (map (key_of schema) (filter p rows))
+unfolding IsStrictlySortedBy
+sorted-filter schema p [] sorted = tt
+sorted-filter schema p (row ∷ rows) sorted = by (p row) (below-filter schema p (key_of schema row) rows sorted.0) (sorted-filter schema p rows sorted.1)
+  where
+    by : (b : Bool) → AllByRecursion (λ other. values_cmp (key_of schema row) other ≡ Less) (map (key_of schema) (filter p rows)) → IsStrictlySortedBy values_cmp (map (key_of schema) (filter p rows))
+        → IsStrictlySortedBy values_cmp (map (key_of schema) (cond b (row ∷ filter p rows) (filter p rows)))
+    by true below rest = (below, rest)
+    by false below rest = rest
+
+-- and so are those that pass a test
+in_order-filter : (schema : Layout) (p : List Value → Bool) (rows : List (List Value)) → AreInOrder schema rows → AreInOrder schema (filter p rows)
+in_order-filter schema p rows order = record { admitted = admitted-filter schema p rows order.admitted; in_order = sorted-filter schema p rows order.in_order }
+
+later_none : (earlier later : Option SpecFault) → or_later earlier later ≡ None → later ≡ None
+later_none (Some fault) later none = absurd (cc)
+later_none None later none = none
+
+neither_taken : (taken again same : Bool) (first second : SpecFault) → cond taken (Some first) (cond (again || same) (Some second) None) ≡ None → same ≡ false
+neither_taken true again same first second none = absurd (cc)
+neither_taken false true same first second none = absurd (cc)
+neither_taken false false true first second none = absurd (cc)
+neither_taken false false false first second none = refl
+
+-- a transformation that fits gives its new tables different names
+names_differ : (catalog : List Declared) (schema : Layout) (table : List ℕ) (tests : List Test) (passing failing : List ℕ)
+    → part_fault catalog (Some schema) table tests passing failing ≡ None → same_name passing failing ≡ false
+names_differ catalog schema table tests passing failing none =
+    let names = later_none (types_fault 1 schema.columns tests) (names_fault catalog passing failing) (later_none (column_fault schema.columns tests) _ none) in
+    neither_taken (is_declared catalog passing) (is_declared catalog failing) (same_name passing failing) _ _ names
+
+-- the rows of a source, as an operator takes them and makes new tables of them
+pub record SplitsInto (catalog : List Declared) (spec : Spec) (rows : List (List Value)) : Type 0 where
+  pub sources : AreSourceRows catalog (sources_of spec) (rows ∷ [])
+  pub fill : FillTargets (targets catalog spec) (operator catalog spec (rows ∷ []))
+  pub names : target_names (targets catalog spec) ≡ targets_of spec
+  pub apart : IsDistinct same_name (target_names (targets catalog spec))
+
+are_rows : (schema : Layout) (rows : List (List Value)) → AreInOrder schema rows → AreRowsOf schema rows
+are_rows schema rows order = record {
+  admitted = All-from_recursion (Admits schema) rows order.admitted;
+  apart = IsDistinct-from_sorted values_cmp (map (key_of schema) rows) order.in_order;
+}
+
+two_apart : (one other : List ℕ) → same_name one other ≡ false → IsDistinct same_name (one ∷ other ∷ [])
+unfolding IsDistinct
+two_apart one other differ = ((differ, tt), (tt, tt))
+
+pub splits_into : (catalog : List Declared) (spec : Spec) (source : Relation)
+    → IsRelation source → IsShaped spec → spec_fault catalog spec ≡ None → source_schema catalog spec ≡ Some source.schema → SplitsInto catalog spec (bare_rows source.rows)
+splits_into catalog (Part table tests passing failing) source is shaped fits declared =
+    let order = rows_in_order source is in
+    let p = passes source.schema.columns tests in
+    let rows = bare_rows source.rows in
+    let fault : part_fault catalog (Some source.schema) table tests passing failing ≡ None = subst (λ s. part_fault catalog s table tests passing failing ≡ None) declared fits in
+    record {
+      sources = rw declared (are_rows source.schema rows order, tt);
+      fill = rw declared (in_order-filter source.schema p rows order, (in_order-filter source.schema (λ row. not (p row)) rows order, tt));
+      names = rw declared refl;
+      apart = rw declared (two_apart passing failing (names_differ catalog source.schema table tests passing failing fault));
+    }
+splits_into catalog (Join left right on_left on_right into) source is shaped fits declared = absurd shaped
+splits_into catalog (Split table dep_by dep rest dependent) source is shaped fits declared = absurd shaped
+splits_into catalog (Union left right into) source is shaped fits declared = absurd shaped
+
+-- the source of a transformation among tables that meet the log
+pub record IsSourceOf (catalog : List Declared) (log : List Rec) (spec : Spec) (source : Relation) : Type 0 where
+  pub declared : source_schema catalog spec ≡ Some source.schema
+  pub rows : AreRowLists catalog log (sources_of spec) (bare_rows source.rows ∷ [])
+
+pub source_meets : (catalog : List Declared) (log : List Rec) (tables : List NamedTable) (spec : Spec) (source : Relation)
+    → TablesMeet catalog log tables → IsShaped spec → spec_fault catalog spec ≡ None → source_table (Some spec) tables ≡ Some source → IsRelation source → IsSourceOf catalog log spec source
+source_meets catalog log tables (Part table tests passing failing) source meets shaped fits found is = by (declared_as catalog table) refl fits
+  where
+    same : (other : Relation) → table_named tables table ≡ Some other → other ≡ source
+    same other named = cc
+
+    by : (answer : Option Declared) → declared_as catalog table ≡ answer → part_fault catalog (option_map (λ (t : Declared). t.schema) answer) table tests passing failing ≡ None
+        → IsSourceOf catalog log (Part table tests passing failing) source
+    by None none fault = absurd (cc)
+    by (Some d) here fault =
+        let named = meets_named catalog log tables table d meets here in
+        let schema : schema_of catalog table ≡ Some source.schema = rw here (ap Some (sym named.schema ∙ ap (λ (r : Relation). r.schema) (same named.relation named.found))) in
+        record {
+          declared = schema;
+          rows = (record { layout = source.schema; declared = schema; are = rows_meet log table source is (found_meets catalog log tables table source meets found) }, tt);
+        }
+source_meets catalog log tables (Join left right on_left on_right into) source meets shaped fits found is = absurd shaped
+source_meets catalog log tables (Split table dep_by dep rest dependent) source meets shaped fits found is = absurd shaped
+source_meets catalog log tables (Union left right into) source meets shaped fits found is = absurd shaped
+
+-- a transformation that fits has its source there
+pub source_there : (catalog : List Declared) (log : List Rec) (tables : List NamedTable) (spec : Spec)
+    → TablesMeet catalog log tables → IsShaped spec → spec_fault catalog spec ≡ None → (source : Relation) × (source_table (Some spec) tables ≡ Some source)
+source_there catalog log tables (Part table tests passing failing) meets shaped fits = by (declared_as catalog table) refl fits
+  where
+    by : (answer : Option Declared) → declared_as catalog table ≡ answer → part_fault catalog (option_map (λ (t : Declared). t.schema) answer) table tests passing failing ≡ None
+        → (source : Relation) × (table_named tables table ≡ Some source)
+    by None none fault = absurd (cc)
+    by (Some d) here fault =
+        let named = meets_named catalog log tables table d meets here in
+        (named.relation, named.found)
+source_there catalog log tables (Join left right on_left on_right into) meets shaped fits = absurd shaped
+source_there catalog log tables (Split table dep_by dep rest dependent) meets shaped fits = absurd shaped
+source_there catalog log tables (Union left right into) meets shaped fits = absurd shaped
+
+pub nothing_left : {X : Type 0} (l : List X) → length l ≡ 0 → l ≡ []
+nothing_left [] none = refl
+nothing_left (x ∷ l) none = absurd (omega arith)
+
+-- a newest entry that is another client's takes no lock
+pub lock_of_others : (tables : List (List ℕ)) (client : ℕ) (left earlier : List Entry) (e : Entry) → left ≡ earlier ++ e ∷ [] → (e.actor ≡ client → ⊥)
+    → has_lock_on tables client (reverse earlier) ≡ has_lock_on tables client (reverse left)
+lock_of_others tables client left earlier e is other =
+    let differs : nat_eq e.actor client ≡ false = grind (arith, nat_tests) in
+    let passed : has_lock_on tables client (e ∷ reverse earlier) ≡ has_lock_on tables client (reverse earlier) = rw differs refl in
+    sym (ap (has_lock_on tables client) (ap reverse is ∙ reverse-append earlier (e ∷ [])) ∙ passed)
+
+-- one turn from the start that may hand out each row hands out each of them
+pub walked_whole : (rows : List Seen) (cursor : Option (List Value)) (n : ℕ) (walked : Walked) → WalksOn rows cursor n walked → cursor ≡ None → n ≡ length rows → walked.seen ≡ rows
+walked_whole rows cursor n walked walks start counts =
+    walks.hands_out ∙ ap (λ from. take n (rows_after from rows)) start ∙ ap (take n) (rows_after-start rows) ∙ ap (λ k. take k rows) counts ∙ take-length rows
+
+-- what a transformation gets as its one source
+pub one_source : (sources none : List (List (List Value))) (taken : List (List Value)) (seen rows : List Seen)
+    → sources ≡ none ++ taken ∷ [] → none ≡ [] → taken ≡ bare_rows seen → seen ≡ rows → sources ≡ bare_rows rows ∷ []
+one_source sources none taken seen rows pushed empty bare all = pushed ∙ rw (empty, bare, all) refl

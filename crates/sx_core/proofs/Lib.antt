@@ -1,0 +1,11 @@
+pub mod EventLemmas
+pub mod ExchangeLemmas
+pub mod KeptLemmas
+pub mod MakeLemmas
+pub mod MeetLemmas
+pub mod RowTurnLemmas
+pub mod ScanLemmas
+pub mod TableLemmas
+pub mod TransformLemmas
+pub mod TurnLemmas
+pub mod WriteLemmas

@@ -1,0 +1,43 @@
+use Rattle.std.proofs.Common.{◌≡◌, ◌∷◌, ◌∙◌, [], List, IfOk, ap, sym, subst}
+use Rattle.std.specs.List.{IsDistinct}
+use Rattle.sx_values.specs.Names.{same_name}
+use Rattle.sx_heap.specs.declared.tables.NamedTable.{NamedTable}
+use Rattle.sx_heap.specs.NamedTables.{names_of_tables}
+use Rattle.sx_ops.specs.declared.spec.Target.{Target}
+use Rattle.sx_ops.specs.Operators.{sources_of, operator, AreSourceRows}
+use Rattle.sx_core.specs.Kept.{plain_rows}
+use Rattle.sx_core.specs.Exchanges.{bare_rows, target_names, FillTargets}
+use Rattle.sx_core.proofs.ExchangeLemmas.{splits_into, walked_whole, one_source}
+use Rattle.sx_core.proofs.exchange.new_tables.Goals as goal
+
+pub transform-requires-clause-rows : goal.transform-requires-clause-rows
+transform-requires-clause-rows c =
+    let source = c.args.source.now in
+    let whole = walked_whole source.rows c.start.result c.len.result c.in_ok-walked.walked c.in_ok-walked.ensures.walked c.start.ensures c.len.ensures.len in
+    let one = one_source c.push.new.self c.new-sources.result c.in_ok-rows_of.field-0 c.in_ok-walked.walked.seen source.rows c.in_ok-push.ensures.ok c.new-sources.ensures c.in_ok-rows_of.ensures whole in
+    let splits = splits_into c.args.catalog.now c.args.spec.now source c.len.ensures.relation c.requires.shaped c.requires.fits c.requires.declared in
+    subst (AreSourceRows c.args.catalog.now (sources_of c.args.spec.now)) (sym one) splits.sources
+
+pub filled_tables-requires : goal.filled_tables-requires
+filled_tables-requires c =
+    let source = c.args.source.now in
+    let whole = walked_whole source.rows c.start.result c.len.result c.in_ok-walked.walked c.in_ok-walked.ensures.walked c.start.ensures c.len.ensures.len in
+    let one = one_source c.push.new.self c.new-sources.result c.in_ok-rows_of.field-0 c.in_ok-walked.walked.seen source.rows c.in_ok-push.ensures.ok c.new-sources.ensures c.in_ok-rows_of.ensures whole in
+    let splits = splits_into c.args.catalog.now c.args.spec.now source c.len.ensures.relation c.requires.shaped c.requires.fits c.requires.declared in
+    let lists : c.in_ok-lists.lists ≡ operator c.args.catalog.now c.args.spec.now (bare_rows source.rows ∷ []) = c.in_ok-lists.ensures ∙ ap (operator c.args.catalog.now c.args.spec.now) one in
+    record {
+      fill = subst (λ targets. FillTargets targets c.in_ok-lists.lists) (sym c.in_ok-targets.ensures) (subst (FillTargets _) (sym lists) splits.fill);
+      apart = subst (λ (targets : List Target). IsDistinct same_name (target_names targets)) (sym c.in_ok-targets.ensures) splits.apart;
+    }
+
+pub returns : goal.returns
+returns c =
+    let source = c.args.source.now in
+    let whole = walked_whole source.rows c.start.result c.len.result c.in_ok-walked.walked c.in_ok-walked.ensures.walked c.start.ensures c.len.ensures.len in
+    let one = one_source c.push.new.self c.new-sources.result c.in_ok-rows_of.field-0 c.in_ok-walked.walked.seen source.rows c.in_ok-push.ensures.ok c.new-sources.ensures c.in_ok-rows_of.ensures whole in
+    let splits = splits_into c.args.catalog.now c.args.spec.now source c.len.ensures.relation c.requires.shaped c.requires.fits c.requires.declared in
+    record {
+      relation = c.len.ensures.relation;
+      names = subst (λ names. IfOk c.filled_tables.result (λ (tables : List NamedTable). names_of_tables tables ≡ names)) (ap target_names c.in_ok-targets.ensures ∙ splits.names) c.filled_tables.ensures.names;
+      rows = subst (λ lists. IfOk c.filled_tables.result (λ (tables : List NamedTable). plain_rows tables ≡ lists)) (c.in_ok-lists.ensures ∙ ap (operator c.args.catalog.now c.args.spec.now) one) c.filled_tables.ensures.rows;
+    }

@@ -1,0 +1,10 @@
+pub mod Answers
+pub mod Changes
+pub mod Conflicts
+pub mod Exchanges
+pub mod Kept
+pub mod Loading
+pub mod Machines
+pub mod Meets
+pub mod Views
+pub mod Writes
