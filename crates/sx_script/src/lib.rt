@@ -10,8 +10,6 @@ mod parser;
 mod plan;
 mod print;
 mod script;
-#[cfg(test)]
-mod tests;
 mod text;
 
 pub use fault::{ScriptCause, ScriptFault};
