@@ -1,0 +1,10 @@
+pub mod AgainLaws
+pub mod ColumnLaws
+pub mod DraftLaws
+pub mod FieldLaws
+pub mod NameLaws
+pub mod PartLaws
+pub mod PlanLaws
+pub mod ReadLaws
+pub mod ScriptLaws
+pub mod SpecLaws

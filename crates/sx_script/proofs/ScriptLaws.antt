@@ -1,0 +1,82 @@
+-- What every script's plan is.
+use Rattle.std.proofs.Common.{◌≡◌, ◌≤◌, ◌<◌, ◌+◌, ◌++◌, ℕ, suc, Bool, true, false, not, cond, nat_le, List, [], ◌∷◌, length, filter, Option, Some, None, option_map, option_and_then, refl, sym, ap, ◌∙◌, subst, arith}
+use Rattle.std.specs.List.{list_all, filter_map, cons_option, AllByRecursion}
+use Rattle.std.proofs.lemmas.Bool.Decides.{nat_tests}
+use Rattle.std.proofs.lemmas.List.{length-append}
+use Rattle.sx_values.specs.Names.{same_name}
+use Rattle.sx_values.specs.Texts.{is_printable}
+use Rattle.sx_values.specs.declared.catalog.Declared.{Declared}
+use Rattle.sx_log.specs.declared.record.Load.{Load}
+use Rattle.sx_model.specs.Schedules.{Plan}
+use Rattle.sx_model.specs.Loads.{AreLoads, loaded_into}
+use Rattle.sx_script.specs.declared.line.Line.{Line}
+use Rattle.sx_script.specs.Lines.{text_lines, is_passed_over, when}
+use Rattle.sx_script.specs.Plans.{plan_of, load_of, asked_of, is_open}
+use Rattle.sx_script.specs.Reading.{item_in, line_in, lines_read, script_read}
+use Rattle.sx_script.specs.Scripts.{IsRead, IsScript}
+use Rattle.sx_script.specs.Sound.{IsSound, IsRunnable}
+
+item_short : (plan : Plan) (text : List ℕ) (item : List Line) → item_in plan text ≡ Some item → length item ≤ 1
+unfolding item_in
+item_short plan text item e = by (list_all is_printable text) (is_passed_over text) (line_in plan text) e
+  where
+    one : (found : Option Line) → option_map (λ shown. shown ∷ []) found ≡ Some item → length item ≤ 1
+    one None f = absurd (cc)
+    one (Some l) f = let s : l ∷ [] ≡ item = cc in subst (λ i. length i ≤ 1) s (omega arith)
+
+    by : (t u : Bool) (found : Option Line) → cond t (cond u (Some []) (option_map (λ shown. shown ∷ []) found)) None ≡ Some item → length item ≤ 1
+    by true true found f = let s : [] ≡ item = cc in subst (λ i. length i ≤ 1) s (omega arith)
+    by true false found f = one found f
+    by false u found f = absurd (cc)
+
+-- no more lines are read than there are in the text
+pub lines_few : (sofar : List Line) (texts : List (List ℕ)) (lines : List Line) → lines_read sofar texts ≡ Some lines → length lines ≤ length texts
+lines_few sofar [] lines e = by (not (is_open (plan_of sofar))) e
+  where
+    by : (t : Bool) → when t [] ≡ Some lines → length lines ≤ 0
+    by true f = let s : [] ≡ lines = cc in subst (λ l. length l ≤ 0) s (omega arith)
+    by false f = absurd (cc)
+lines_few sofar (text ∷ texts) lines e = by (item_in (plan_of sofar) text) refl e (λ item more f. lines_few (sofar ++ item) texts more f)
+  where
+    joined : (item : List Line) (found : Option (List Line)) → length item ≤ 1 → ((more : List Line) → found ≡ Some more → length more ≤ length texts) → option_map (λ more. item ++ more) found ≡ Some lines → length lines ≤ suc (length texts)
+    joined item None short go f = absurd (cc)
+    joined item (Some more) short go f = let s : item ++ more ≡ lines = cc in let few = go more refl in subst (λ l. length l ≤ suc (length texts)) s (omega (arith, length-append item more))
+
+    by : (found : Option (List Line)) → item_in (plan_of sofar) text ≡ found → option_and_then (λ item. option_map (λ more. item ++ more) (lines_read (sofar ++ item) texts)) found ≡ Some lines
+        → ((item more : List Line) → lines_read (sofar ++ item) texts ≡ Some more → length more ≤ length texts) → length lines ≤ suc (length texts)
+    by None d f go = absurd (cc)
+    by (Some item) d f go = joined item (lines_read (sofar ++ item) texts) (item_short (plan_of sofar) text item d) (λ more g. go item more g) f
+
+pub script_short : (bytes : List ℕ) (lines : List Line) → script_read bytes ≡ Some lines → length lines ≤ 20000
+script_short bytes lines e = by (nat_le (length (text_lines bytes)) 20000) refl e
+  where
+    by : (t : Bool) → nat_le (length (text_lines bytes)) 20000 ≡ t → cond t (lines_read [] (text_lines bytes)) None ≡ Some lines → length lines ≤ 20000
+    by true d f = let few = lines_few [] (text_lines bytes) lines f in let within : length (text_lines bytes) ≤ 20000 = grind (arith, nat_tests) in omega arith
+    by false d f = absurd (cc)
+
+one_short : {A B : Type 0} (f : A → Option B) (xs : List A) (o : Option B) → length (filter_map f xs) ≤ length xs → length (cons_option o (filter_map f xs)) ≤ suc (length xs)
+one_short f xs None h = omega arith
+one_short f xs (Some y) h = omega arith
+
+map_short : {A B : Type 0} (f : A → Option B) (xs : List A) → length (filter_map f xs) ≤ length xs
+map_short f [] = omega arith
+map_short f (x ∷ xs) = one_short f xs (f x) (map_short f xs)
+
+kept_short : {A : Type 0} (p : A → Bool) (x : A) (xs : List A) (t : Bool) → length (filter p xs) ≤ length xs → length (cond t (x ∷ filter p xs) (filter p xs)) ≤ suc (length xs)
+kept_short p x xs true h = omega arith
+kept_short p x xs false h = omega arith
+
+filter_short : {A : Type 0} (p : A → Bool) (xs : List A) → length (filter p xs) ≤ length xs
+filter_short p [] = omega arith
+filter_short p (x ∷ xs) = kept_short p x xs (p x) (filter_short p xs)
+
+pub runnable : (lines : List Line) → length lines ≤ 20000 → IsSound (plan_of lines) → IsRunnable (plan_of lines)
+runnable lines few s =
+    let loads = map_short load_of lines in
+    let asked = map_short asked_of lines in
+    record {
+      loads = record { admitted = s.admitted; apart = s.apart; few = λ table. let into = filter_short (λ (load : Load). same_name load.table table) (plan_of lines).loads in omega arith };
+      fits = s.fits;
+      own = s.own;
+      few = omega arith;
+    }

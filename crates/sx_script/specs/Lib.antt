@@ -1,0 +1,10 @@
+pub mod Asking
+pub mod Columns
+pub mod Fields
+pub mod Lines
+pub mod Parsers
+pub mod Plans
+pub mod Printing
+pub mod Reading
+pub mod Scripts
+pub mod Sound
