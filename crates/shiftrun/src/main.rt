@@ -1,0 +1,37 @@
+//! Runs a script of clients' requests and a transformation of a table, and prints what came of it.
+#![tactic(auto)]
+
+mod end;
+mod run;
+mod shift;
+mod status;
+
+pub use end::End;
+pub use run::{finish, step_all};
+pub use shift::{Word, shift, shift_alone};
+use std::process::ExitCode;
+use std::{env, io};
+use sx_io::{StdSink, StdSource};
+
+fn main(rt: HostRuntime) -> ExitCode {
+    let alloc = rt.alloc();
+    match words(&rt) {
+        Ok(words) => {
+            let mut source = StdSource::new(rt.stdin());
+            let mut sink = StdSink::new(rt.stdout());
+            let mut kept = None;
+            let status = shift(alloc, words.as_slice(), &mut source, &mut sink, &mut kept);
+            ExitCode::from(status)
+        }
+        Err(_) => ExitCode::from(5),
+    }
+}
+
+// The words behind the program's name.
+fn words(rt: &HostRuntime) -> io::Result<Vec<Word>> {
+    let mut words = Vec::new(rt.alloc());
+    for word in env::args(rt)?.skip(1) {
+        words.push(word)?;
+    }
+    Ok(words)
+}

@@ -1,0 +1,107 @@
+// The top call: from words and bytes to bytes and a status.
+ghost use Rattle.std.specs.Prelude.{◌≡◌, ◌↔◌, IsTrue, None, map, string_bytes};
+ghost use Rattle.shiftrun.specs.Outputs.{IsStep};
+ghost use Rattle.shiftrun.specs.Endings.{Ends, EndsWith, StepEnds, PutsOut};
+
+use crate::run::run_script;
+use crate::status::Status;
+use std::alloc::Global;
+use sx_core::{Core, CoreFault};
+use sx_io::{ReadFault, Sink, Source, read_all, write_all};
+use sx_script::{ScriptFault, parse_script};
+
+/// A word of the command line.
+pub type Word = String;
+
+/// How many bytes a script may have.
+const MOST_BYTES: u64 = 1_048_576;
+
+/// Does what the words say, and answers the exit status: `step` reads a script from the source, runs it and puts the
+/// report out. What is printed at each status stands in `docs/FORMATS.md`. `kept` is the machine whose report was put out.
+pub fn shift<S: Source, K: Sink>(
+    alloc: Global,
+    words: &[Word],
+    source: &mut S,
+    sink: &mut K,
+    kept: &mut Option<Core>,
+) -> u8
+    requires { kept.old ≡ None }
+    ensures { EndsWith (map string_bytes words.now) (record { left = S.left source.old; unread = S.faults source.old; written = K.written sink.old; unwritten = K.faults sink.old }) (record { left = S.left source.new; unread = S.faults source.new; written = K.written sink.new; unwritten = K.faults sink.new }) kept.new result }
+{
+    shift_alone(alloc, words, source, sink, kept)
+}
+
+/// The same, for the words of commands that run by one thread, as all do today.
+pub fn shift_alone<S: Source, K: Sink>(
+    alloc: Global,
+    words: &[Word],
+    source: &mut S,
+    sink: &mut K,
+    kept: &mut Option<Core>,
+) -> u8
+    requires { kept.old ≡ None }
+    ensures { EndsWith (map string_bytes words.now) (record { left = S.left source.old; unread = S.faults source.old; written = K.written sink.old; unwritten = K.faults sink.old }) (record { left = S.left source.new; unread = S.faults source.new; written = K.written sink.new; unwritten = K.faults sink.new }) kept.new result }
+{
+    command(alloc, words, source, sink, kept).code()
+}
+
+// Does what the words say.
+fn command<S: Source, K: Sink>(
+    alloc: Global,
+    words: &[Word],
+    source: &mut S,
+    sink: &mut K,
+    kept: &mut Option<Core>,
+) -> Status
+    requires { kept.old ≡ None }
+    ensures { Ends (map string_bytes words.now) (record { left = S.left source.old; unread = S.faults source.old; written = K.written sink.old; unwritten = K.faults sink.old }) (record { left = S.left source.new; unread = S.faults source.new; written = K.written sink.new; unwritten = K.faults sink.new }) kept.new result }
+{
+    if !is_step(words) {
+        return put(sink, b"fault words\n", Status::Words);
+    }
+    match read_all(alloc, source, MOST_BYTES) {
+        Ok(bytes) => step(alloc, bytes.as_slice(), sink, kept),
+        Err(ReadFault::TooLong) => put(sink, b"fault 0 toolong\n", Status::Refused),
+        Err(ReadFault::Failed) => Status::Unread,
+        Err(ReadFault::Memory) => Status::Memory,
+    }
+}
+
+// Whether the words are the one command that is built.
+fn is_step(words: &[Word]) -> bool
+    ensures { IsTrue result ↔ IsStep (map string_bytes words.now) }
+{
+    words.len() == 1 && words[0].as_str() == "step"
+}
+
+// Runs the script that the bytes are, and puts its report out.
+fn step<K: Sink>(alloc: Global, bytes: &[u8], sink: &mut K, kept: &mut Option<Core>) -> Status
+    requires { kept.old ≡ None }
+    ensures { StepEnds bytes.now (K.written sink.old) (K.written sink.new) (K.faults sink.old) (K.faults sink.new) kept.new result }
+{
+    match parse_script(alloc, bytes) {
+        Ok(script) => match run_script(alloc, &script) {
+            Ok(done) => match write_all(sink, done.text.as_slice()) {
+                Ok(()) => {
+                    *kept = Some(done.core);
+                    Status::Reported
+                }
+                Err(_) => Status::Unwritten,
+            },
+            Err(CoreFault::Memory) => Status::Memory,
+            Err(CoreFault::Full) => unreachable!(),
+        },
+        Err(ScriptFault::Memory) => Status::Memory,
+        Err(ScriptFault::Bad { .. }) => put(sink, b"fault 0 later\n", Status::Refused),
+    }
+}
+
+// Puts a text out, and answers the status that this has where all of it was taken.
+fn put<K: Sink>(sink: &mut K, text: &[u8], status: Status) -> Status
+    ensures { PutsOut (K.written sink.old) (K.written sink.new) (K.faults sink.old) (K.faults sink.new) text.now status result }
+{
+    match write_all(sink, text) {
+        Ok(()) => status,
+        Err(_) => Status::Unwritten,
+    }
+}

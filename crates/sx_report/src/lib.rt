@@ -1,0 +1,14 @@
+//! Reports: the script, the journal, the log and the tables as lines of text.
+#![tactic(auto)]
+
+mod end;
+mod entry;
+mod record;
+mod report;
+mod tables;
+mod words;
+
+pub use end::ReportEnd;
+pub use record::print_log_line;
+pub use report::{print_head, print_report};
+pub use tables::print_tables;
