@@ -1,5 +1,5 @@
 -- How a call of the program ends, from how its parts do.
-use Rattle.std.proofs.Common.{◌≡◌, ◌⊎◌, ℕ, Bool, List, [], ◌∷◌, length, map, get_or, Option, None, Err, refl, sym, ap, ◌∙◌, subst, inl, inr, codes, string_bytes}
+use Rattle.std.proofs.Common.{◌≡◌, ℕ, Bool, List, [], ◌∷◌, length, map, get_or, Option, None, Err, refl, sym, ap, ◌∙◌, subst, inl, inr, codes, string_bytes}
 use Rattle.std.specs.Prelude.{IsTrue, bytes_eq, String}
 use Rattle.std.specs.Bool.{Decides}
 use Rattle.std.specs.declared.alloc.Global.{Global}
@@ -7,7 +7,7 @@ use Rattle.std.proofs.lemmas.Slice.Eq.{bytes_eq-Decides}
 use Rattle.std.specs.Io.KnownBytes.{Appends}
 use Rattle.sx_io.specs.declared.whole.ReadFault.{ReadFault}
 use Rattle.sx_io.specs.declared.whole.ReadFault.TheVariants.{TooLong}
-use Rattle.sx_io.specs.Whole.{ReadsAll, IsReadWhole, IsReadPast, IsWrittenInPart}
+use Rattle.sx_io.specs.Whole.{ReadsAll, IsReadWhole, IsReadPast}
 use Rattle.sx_core.specs.Machines.{Machine}
 use Rattle.sx_script.specs.declared.line.Line.{Line}
 use Rattle.sx_script.specs.declared.fault.ScriptCause.{ScriptCause}

@@ -1,11 +1,10 @@
 -- A client's line on the machine, and what the last one leaves.
-use Rattle.std.proofs.Common.{◌≡◌, ◌≤◌, ◌<◌, ◌==◌, ◌⊎◌, ℕ, zero, suc, Bool, true, false, not, List, [], ◌∷◌, length, map, filter, get_or, Option, Some, None, option_map, refl, sym, ap, ◌∙◌, subst, inl, inr, ⊎_elim, arith, ap₂, ◌+◌}
+use Rattle.std.proofs.Common.{◌≡◌, ◌<◌, ◌⊎◌, ℕ, zero, suc, Bool, false, not, List, [], ◌∷◌, length, map, get_or, Some, option_map, refl, sym, ap, ◌∙◌, subst, inl, inr, ⊎_elim, arith, ap₂, ◌+◌}
 use Rattle.std.specs.Prelude.{slice_get}
 use Rattle.std.specs.List.{AllByRecursion}
 use Rattle.std.proofs.lemmas.Option.{slice_get_cases, slice_get_read, slice_get-map}
 use Rattle.sx_ops.specs.declared.spec.Spec.{Spec}
 use Rattle.sx_sync.specs.declared.Strategy.TheVariants.{Blocking}
-use Rattle.sx_sync.specs.declared.Phase.{Phase}
 use Rattle.sx_sync.specs.declared.Phase.TheVariants.{Idle, Scanning, Chasing, Draining}
 use Rattle.sx_journal.specs.declared.entry.Entry.{Entry}
 use Rattle.sx_journal.specs.declared.entry.Event.{Event}
@@ -16,10 +15,10 @@ use Rattle.sx_journal.specs.declared.entry.Reply.{Reply}
 use Rattle.sx_journal.specs.declared.entry.Reply.TheVariants as reply
 use Rattle.sx_model.specs.Openings.{Opening}
 use Rattle.sx_model.specs.Effects.{Effect, Nothing, Begins, Writes, Commits, effect}
-use Rattle.sx_model.specs.Leaves.{Living, living, living_after, without, txn_among, txn_of, begun, started, phase, phase_after}
+use Rattle.sx_model.specs.Leaves.{living, without, txn_among, begun, started, phase, phase_after}
 use Rattle.sx_model.specs.Logs.{next_lsn}
 use Rattle.sx_model.specs.Replies.{reply_in, reply_outside, reply_inside}
-use Rattle.sx_model.specs.Legal.{Legal, IsLegalEntry, Allows, AllowsClient}
+use Rattle.sx_model.specs.Legal.{Legal, IsLegalEntry, Allows}
 use Rattle.sx_model.specs.Schedules.{Plan, Line, next_turn, turn_at, propagator_event, client_turn, Turn, Stepped}
 use Rattle.sx_model.proofs.EntryLaws.{living_by}
 use Rattle.sx_model.proofs.LegalLaws.{legal_living}
@@ -28,7 +27,7 @@ use Rattle.sx_script.specs.Plans.{is_open, is_open_behind, is_commit}
 use Rattle.sx_script.specs.declared.plan.Asked.{Asked}
 use Rattle.sx_script.specs.Asking.{as_line}
 use Rattle.sx_core.specs.Machines.{Machine, Turns}
-use Rattle.shiftrun.specs.Runs.{Runs, HasRunLines}
+use Rattle.shiftrun.specs.Runs.{HasRunLines}
 
 pub phase_by : (past : List Entry) (e : Entry) (f : Effect) → effect e.reply ≡ f → phase (e ∷ past) ≡ phase_after (started past) f (phase past)
 phase_by past e f told = ap (λ g. phase_after (started past) g (phase past)) told

@@ -1,19 +1,17 @@
 -- What the report of a whole run shows of the new tables.
-use Rattle.std.proofs.Common.{◌≡◌, ◌==◌, ℕ, zero, suc, Bool, true, false, List, [], ◌∷◌, length, filter, Option, Some, None, refl, sym, ap, ◌∙◌, subst, arith, ⊎_elim}
+use Rattle.std.proofs.Common.{◌≡◌, ℕ, List, [], ◌∷◌, length, Option, Some, None, refl, sym, ap, ◌∙◌, subst, ⊎_elim}
 use Rattle.std.specs.Prelude.{⊤, slice_get, MatchOption}
 use Rattle.std.specs.List.{AllByRecursion}
 use Rattle.std.proofs.lemmas.Option.{slice_get_cases}
 use Rattle.sx_ops.specs.declared.spec.Spec.{Spec}
 use Rattle.sx_ops.specs.Operators.{targets_of}
 use Rattle.sx_heap.specs.declared.tables.NamedTable.{NamedTable}
-use Rattle.sx_heap.specs.NamedTables.{names_of_tables}
 use Rattle.sx_sync.specs.declared.Phase.{Phase}
 use Rattle.sx_sync.specs.declared.Phase.TheVariants.{Idle, Scanning, Chasing, Draining, Late, Done}
 use Rattle.sx_journal.specs.declared.entry.Entry.{Entry}
 use Rattle.sx_model.specs.LoadRecords.{IsOpened}
-use Rattle.sx_model.specs.Openings.{Opening}
 use Rattle.sx_model.specs.Leaves.{Started, started, phase}
-use Rattle.sx_model.specs.Schedules.{Plan, Line as Asked, own, Stepped, next_turn, turn_at, client_turn, Turn, propagator_event, IsSwitched}
+use Rattle.sx_model.specs.Schedules.{Plan, Line as Asked, own, Stepped, turn_at, client_turn, Turn, propagator_event, IsSwitched}
 use Rattle.sx_model.proofs.LegalLaws.{idle_unstarted, never_late}
 use Rattle.sx_model.proofs.RestLaws.{opening_opened, new_tables_committed}
 use Rattle.sx_script.specs.declared.line.Line.{Line}
@@ -23,7 +21,7 @@ use Rattle.sx_core.specs.Machines.{Machine}
 use Rattle.sx_core.specs.Kept.{IsSwitchedTo, plain_rows}
 use Rattle.sx_core.specs.Views.{NewTablesMeet}
 use Rattle.sx_report.specs.Reports.{IsReport}
-use Rattle.shiftrun.specs.Runs.{Runs, HasRun, end_of}
+use Rattle.shiftrun.specs.Runs.{HasRun, end_of}
 use Rattle.shiftrun.specs.ReportRuns.{AreTransformed, IsUntouched, IsRun, report_end}
 use Rattle.shiftrun.proofs.LineLaws.{all_at}
 use Rattle.shiftrun.proofs.RunLaws.{started_is_asked}

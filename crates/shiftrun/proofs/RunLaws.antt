@@ -1,32 +1,29 @@
 -- The propagator's turns at the end of a run: start, scan turns and the switch.
-use Rattle.std.proofs.Common.{◌≡◌, ◌≢◌, ◌≤◌, ◌<◌, ◌+◌, ◌⊎◌, ◌-◌, ℕ, zero, suc, Bool, true, false, List, [], ◌∷◌, length, map, reverse, Option, Some, None, option_map, refl, sym, ap, ap₂, ◌∙◌, subst, inl, inr, arith, le_trans, if◌then◌else◌}
-use Rattle.std.specs.Prelude.{⊤, slice_get, filter, nat_lt, nat_eq, MatchOption}
+use Rattle.std.proofs.Common.{◌≡◌, ◌≤◌, ◌-◌, ℕ, suc, Bool, true, false, List, [], ◌∷◌, length, map, Option, Some, None, sym, ap, ap₂, ◌∙◌, subst, inl, arith, le_trans, if◌then◌else◌}
+use Rattle.std.specs.Prelude.{⊤, filter, nat_lt, nat_eq, MatchOption}
 use Rattle.std.specs.List.{filter_map, cons_option, list_any, IsDistinct}
 use Rattle.std.proofs.lemmas.Option.{slice_get_past}
 use Rattle.std.proofs.lemmas.List.{length-map, length-reverse}
-use Rattle.sx_log.specs.declared.record.Load.{Load}
 use Rattle.sx_ops.specs.declared.spec.Spec.{Spec}
 use Rattle.sx_ops.specs.Checks.{spec_fault}
-use Rattle.sx_sync.specs.declared.Strategy.{Strategy}
 use Rattle.sx_sync.specs.declared.Strategy.TheVariants.{Blocking}
-use Rattle.sx_sync.specs.declared.Phase.{Phase}
 use Rattle.sx_sync.specs.declared.Phase.TheVariants.{Idle, Scanning, Chasing, Draining, Done}
 use Rattle.sx_journal.specs.declared.entry.Entry.{Entry}
 use Rattle.sx_journal.specs.declared.entry.Event.{Event}
 use Rattle.sx_journal.specs.declared.entry.Event.TheVariants.{Start, Scan, Switch}
 use Rattle.sx_journal.specs.declared.entry.Reply.{Reply}
 use Rattle.sx_journal.specs.declared.entry.Reply.TheVariants as reply
-use Rattle.sx_model.specs.Openings.{Opening, opening, load_record}
+use Rattle.sx_model.specs.Openings.{Opening, load_record}
 use Rattle.sx_model.specs.Effects.{Effect, Starts, Sees, Switches, effect}
-use Rattle.sx_model.specs.Leaves.{Living, living, Started, started, started_by, started_as, phase, phase_after}
+use Rattle.sx_model.specs.Leaves.{Living, living, Started, started, started_by, started_as, phase}
 use Rattle.sx_model.specs.Logs.{log_of, next_lsn}
 use Rattle.sx_model.specs.Replies.{start_reply, start_in, start_answer}
 use Rattle.sx_model.specs.Scans.{seen, seen_after}
-use Rattle.sx_model.specs.Switches.{switch_reply, switch_in, attempt_reply, tail_reply, switch_unless, conflict, conflicts, least, position}
+use Rattle.sx_model.specs.Switches.{switch_reply, switch_in, attempt_reply, switch_unless, conflict, conflicts, least, position}
 use Rattle.sx_model.specs.Legal.{Legal, Allows}
-use Rattle.sx_model.specs.Schedules.{Plan, Line, opening_of, own, KeepsScript, KeepsEvent, next_turn, turn_at, propagator_event, propagator_turn, Turn, Stepped, IsComplete}
+use Rattle.sx_model.specs.Schedules.{Plan, opening_of, KeepsScript, KeepsEvent, next_turn, turn_at, propagator_event, propagator_turn, Stepped}
 use Rattle.sx_model.proofs.EntryLaws.{living_by, log_bounded, log_grows_by_one}
-use Rattle.sx_model.proofs.LegalLaws.{legal_progress, HowFar, Progress, before, under_way, UnderWay}
+use Rattle.sx_model.proofs.LegalLaws.{legal_progress, HowFar, before, under_way}
 use Rattle.sx_model.proofs.ScriptLaws.{complete_at_end}
 use Rattle.sx_core.specs.Machines.{Machine, Turns}
 use Rattle.sx_script.specs.declared.line.Line.{Line as ScriptLine}

@@ -1,12 +1,11 @@
 -- Scan turns of 64 rows come to their end before the journal is long: what they see are distinct records of a log that stays.
-use Rattle.std.proofs.Common.{◌≡◌, ◌≤◌, ◌<◌, ◌+◌, ◌*◌, ◌++◌, ◌==◌, ◌||◌, ◌⊎◌, ℕ, zero, suc, Bool, true, false, not, List, [], ◌∷◌, length, Option, Some, None, refl, sym, ap, ◌∙◌, subst, inl, inr, arith, eqb-true, if◌then◌else◌, ap₂, ⊎_elim}
+use Rattle.std.proofs.Common.{◌≡◌, ◌≤◌, ◌<◌, ◌+◌, ◌*◌, ◌++◌, ◌||◌, ◌⊎◌, ℕ, zero, suc, Bool, true, false, not, List, [], ◌∷◌, length, Some, refl, sym, ap, ◌∙◌, subst, inl, inr, arith, eqb-true, if◌then◌else◌, ap₂, ⊎_elim}
 use Rattle.std.specs.Prelude.{IsTrue, nat_eq, slice_get}
 use Rattle.std.specs.List.{list_any, IsDistinct, AllByRecursion}
 use Rattle.std.proofs.lemmas.Bool.{cases_lt}
 use Rattle.std.proofs.lemmas.Bool.Decides.{nat_tests}
 use Rattle.std.proofs.lemmas.List.{length-append}
 use Rattle.std.proofs.lemmas.Map.Steps.{length-le_from_distinct_below}
-use Rattle.sx_values.specs.declared.value.Value.{Value}
 use Rattle.sx_log.specs.declared.record.Rec.{Rec}
 use Rattle.sx_ops.specs.declared.spec.Spec.{Spec}
 use Rattle.sx_ops.specs.declared.spec.Spec.TheVariants.{Join, Split, Part, Union}
@@ -18,14 +17,14 @@ use Rattle.sx_journal.specs.declared.entry.Event.TheVariants.{Scan}
 use Rattle.sx_journal.specs.declared.entry.Reply.{Reply}
 use Rattle.sx_journal.specs.declared.entry.Reply.TheVariants.{Scanned, NoTransform, ScanOver}
 use Rattle.sx_model.specs.Openings.{Opening}
-use Rattle.sx_model.specs.Effects.{Effect, Sees, effect}
-use Rattle.sx_model.specs.Leaves.{Started, started, phase, phase_after}
+use Rattle.sx_model.specs.Effects.{Sees, effect}
+use Rattle.sx_model.specs.Leaves.{started, phase}
 use Rattle.sx_model.specs.Logs.{log_of}
-use Rattle.sx_model.specs.Scans.{seen, seen_after, has_lsn, IsRowNow, IsScanTurn, EndsSide, IsLastSide, side_table}
+use Rattle.sx_model.specs.Scans.{seen, seen_after, has_lsn, IsRowNow, IsScanTurn, IsLastSide, side_table}
 use Rattle.sx_model.specs.Legal.{Legal, Allows, ScanAnswer}
 use Rattle.sx_model.proofs.EntryLaws.{log-saw}
 use Rattle.sx_model.proofs.LsnLaws.{lsn_within}
-use Rattle.sx_model.proofs.LegalLaws.{legal_progress, HowFar, Progress, before, under_way, UnderWay}
+use Rattle.sx_model.proofs.LegalLaws.{legal_progress, HowFar, before, under_way}
 use Rattle.sx_core.specs.Machines.{Machine, Turns}
 use Rattle.shiftrun.proofs.LineLaws.{phase_by}
 

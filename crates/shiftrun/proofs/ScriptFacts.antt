@@ -1,9 +1,8 @@
 -- What holds of every script that was read, besides that it can be run: its last block is closed, and no line sets a strategy.
-use Rattle.std.proofs.Common.{◌≡◌, ◌≤◌, ◌++◌, ℕ, Bool, true, false, not, cond, is_some, List, [], ◌∷◌, length, Option, Some, None, option_map, option_and_then, unwrap_or, refl, sym, ap, ◌∙◌, subst, arith, append-nil, append_assoc, nat_le}
+use Rattle.std.proofs.Common.{◌≡◌, ◌++◌, ℕ, Bool, true, false, not, cond, List, [], ◌∷◌, length, Option, Some, None, option_map, option_and_then, unwrap_or, refl, sym, ap, ◌∙◌, subst, append-nil, append_assoc, nat_le}
 use Rattle.std.specs.List.{list_all, filter_map, cons_option}
 use Rattle.std.proofs.lemmas.List.Elements.{filter_map-append}
 use Rattle.sx_values.specs.Texts.{is_printable}
-use Rattle.sx_sync.specs.declared.Strategy.{Strategy}
 use Rattle.sx_sync.specs.declared.Strategy.TheVariants.{Blocking}
 use Rattle.sx_model.specs.Schedules.{Plan}
 use Rattle.sx_script.specs.declared.line.Line.{Line}

@@ -1,5 +1,5 @@
 -- What the report of a whole run shows.
-use Rattle.std.specs.Prelude.{◌≡◌, ⊤, ℕ, List, [], Option, Some, None, MatchOption}
+use Rattle.std.specs.Prelude.{◌≡◌, ℕ, List, [], Some, MatchOption}
 use Rattle.sx_ops.specs.declared.spec.Spec.{Spec}
 use Rattle.sx_ops.specs.Operators.{targets_of}
 use Rattle.sx_heap.specs.declared.tables.NamedTable.{NamedTable}

@@ -1,5 +1,5 @@
 -- How far a machine has come with a script.
-use Rattle.std.specs.Prelude.{◌≡◌, ℕ, List, [], length, Option, Some, None}
+use Rattle.std.specs.Prelude.{◌≡◌, ℕ, [], length, Option, Some, None}
 use Rattle.sx_ops.specs.declared.spec.Spec.{Spec}
 use Rattle.sx_sync.specs.declared.Phase.TheVariants.{Idle}
 use Rattle.sx_model.specs.Leaves.{living, phase}

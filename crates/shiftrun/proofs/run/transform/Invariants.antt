@@ -1,4 +1,4 @@
-use Rattle.std.proofs.Common.{◌-◌, ℕ, length}
+use Rattle.std.proofs.Common.{◌-◌, length}
 use Rattle.sx_script.specs.Plans.{plan_of}
 use Rattle.shiftrun.proofs.RunLaws.{Transforms}
 use Rattle.shiftrun.proofs.run.transform.Given as goal

@@ -1,4 +1,4 @@
-use Rattle.std.proofs.Common.{◌≡◌, map, string_bytes, refl, subst}
+use Rattle.std.proofs.Common.{map, string_bytes, refl, subst}
 use Rattle.shiftrun.specs.Endings.{Outside, StepEnds}
 use Rattle.shiftrun.proofs.EndLaws.{past_read, long_end, step_end}
 use Rattle.shiftrun.proofs.shift.command.Goals as goal

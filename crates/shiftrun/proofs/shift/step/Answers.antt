@@ -1,4 +1,4 @@
-use Rattle.std.proofs.Common.{◌≡◌, Some, sym, refl, subst}
+use Rattle.std.proofs.Common.{Some, refl, subst}
 use Rattle.sx_io.specs.Whole.{IsWrittenInPart}
 use Rattle.sx_script.specs.Reading.{script_read}
 use Rattle.shiftrun.specs.declared.status.Status.TheVariants.{Reported}
