@@ -1,10 +1,10 @@
 -- The fields of a CSV record, and the values that they show.
-use Rattle.std.specs.Prelude.{◌++◌, Bool, true, ℕ, ℤ, pos, negsuc, List, [], ◌∷◌, map, nat_lt, Option, Some, None, if◌then◌else◌}
+use Rattle.std.specs.Prelude.{◌≡◌, ◌==◌, ◌++◌, Bool, true, false, length, ℕ, ℤ, pos, negsuc, List, [], ◌∷◌, map, nat_lt, Option, Some, None, if◌then◌else◌}
 use Rattle.std.specs.List.{list_all}
 use Rattle.std.specs.Fmt.{signed_decimal}
 use Rattle.csv.specs.Machine.{Read, next_record}
 use Rattle.csv.specs.Reading.{default_config}
-use Rattle.csv.specs.Writing.{default_writer, is_blank, row_body}
+use Rattle.csv.specs.Writing.{default_writer, is_blank, needs_quotes, row_body}
 use Rattle.csv.specs.declared.parser.State.TheVariants as st
 use Rattle.sx_values.specs.Texts.{is_text, null_word}
 use Rattle.sx_values.specs.declared.value.Value.{Value}
@@ -46,3 +46,8 @@ is_value (Text t) = is_text t
 
 abbrev pub are_values : List Value → Bool
 are_values values = list_all is_value values
+
+-- a field that csv's writer writes as it is, and that shows some byte
+pub record IsPlain (field : List ℕ) : Type 0 where
+  pub unquoted : needs_quotes default_writer field ≡ false
+  pub shown : (length field == 0) ≡ false

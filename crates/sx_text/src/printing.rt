@@ -1,10 +1,10 @@
 // Rows and keys as CSV records.
-ghost use Rattle.std.specs.Prelude.{◌≡◌, ◌++◌, ◌∷◌, [], IfOk, IsTrue, OnErr, OnOk, map};
+ghost use Rattle.std.specs.Prelude.{◌≡◌, ◌++◌, ◌∷◌, [], IfOk, IfSome, IsTrue, OnErr, OnOk, OnSome, map};
 ghost use Rattle.std.specs.List.{list_all};
 ghost use Rattle.csv.specs.Records.{fields_of, partial_of};
-ghost use Rattle.csv.specs.Writing.{default_writer, row_text};
+ghost use Rattle.csv.specs.Writing.{default_writer, needs_byte, needs_quotes, row_text};
 ghost use Rattle.sx_values.specs.Texts.{is_printable};
-ghost use Rattle.sx_text.specs.Records.{are_values, field_of, is_value, record_of, record_text};
+ghost use Rattle.sx_text.specs.Records.{IsPlain, are_values, field_of, is_value, record_of, record_text};
 
 use csv::{ByteRecord, WriterBuilder};
 use itoa::Buffer;
@@ -36,8 +36,7 @@ pub fn put_record(alloc: Global, out: &mut Vec<u8>, values: &[Value]) -> Result<
     ensures values { OnOk result (IsTrue (are_values values.now)) }
     ensures err { OnErr result (out.new.items ≡ out.old.items) }
 {
-    let record = record_of_values(alloc, values)?;
-    let text = record_of(alloc, &record)?;
+    let text = record_in(alloc, values)?;
     out.extend_from_slice(text.as_slice())
 }
 
@@ -47,9 +46,88 @@ fn text_of_values(alloc: Global, values: &[Value]) -> Result<List<u8>, AllocErro
     ensures printable { IfOk result (λ text. IsTrue (list_all is_printable text)) }
     ensures values { OnOk result (IsTrue (are_values values.now)) }
 {
-    let record = record_of_values(alloc, values)?;
-    let text = record_of(alloc, &record)?;
+    let text = record_in(alloc, values)?;
     Ok(List::from_vec(text))
+}
+
+// The record that shows values. csv's writer, which takes a buffer for each record, is asked only where a field calls for quotes.
+fn record_in(alloc: Global, values: &[Value]) -> Result<Vec<u8>, AllocError>
+    ensures text { IfOk result (λ text. text.items ≡ record_text values.now) }
+    ensures values { OnOk result (IsTrue (are_values values.now)) }
+{
+    if let Some((first, rest)) = values.split_first() {
+        if let Some(text) = plain_record(alloc, first, rest)? {
+            return Ok(text);
+        }
+    }
+    quoted_record(alloc, values)
+}
+
+// The record that shows values, as csv's writer writes it.
+fn quoted_record(alloc: Global, values: &[Value]) -> Result<Vec<u8>, AllocError>
+    ensures text { IfOk result (λ text. text.items ≡ record_text values.now) }
+    ensures values { OnOk result (IsTrue (are_values values.now)) }
+{
+    let record = record_of_values(alloc, values)?;
+    record_of(alloc, &record)
+}
+
+// The record that shows values, if none of its fields calls for quotes: the fields with commas between them.
+fn plain_record(alloc: Global, first: &Value, rest: &[Value]) -> Result<Option<Vec<u8>>, AllocError>
+    ensures text { IfOk result (λ found. IfSome found (λ text. text.items ≡ record_text (first.now ∷ rest.now))) }
+    ensures values { IfOk result (λ found. OnSome found (IsTrue (are_values (first.now ∷ rest.now)))) }
+{
+    let mut text = Vec::new(alloc);
+    if !put_field(&mut text, first)? {
+        return Ok(None);
+    }
+    for value in rest {
+        text.push(b',')?;
+        if !put_field(&mut text, value)? {
+            return Ok(None);
+        }
+    }
+    Ok(Some(text))
+}
+
+// Puts the field that shows a value at the end, and answers whether it stands there as csv's writer would write it.
+fn put_field(text: &mut Vec<u8>, value: &Value) -> Result<bool, AllocError>
+    ensures text { OnOk result (text.new.items ≡ text.old.items ++ field_of value.now) }
+    ensures plain { IfOk result (λ plain. IsTrue plain → IsPlain (field_of value.now)) }
+    ensures value { OnOk result (IsTrue (is_value value.now)) }
+{
+    match value {
+        Value::Null => put_bytes(text, b"NULL"),
+        Value::Int(number) => {
+            let mut digits = Buffer::new();
+            put_bytes(text, digits.format(*number).as_bytes())
+        }
+        Value::Text(shown) => put_bytes(text, shown.as_bytes()),
+    }
+}
+
+// Puts the bytes of a field at the end, and answers whether they need no quotes.
+fn put_bytes(text: &mut Vec<u8>, bytes: &[u8]) -> Result<bool, AllocError>
+    ensures text { OnOk result (text.new.items ≡ text.old.items ++ bytes.now) }
+    ensures plain { IfOk result (λ plain. IsTrue plain → IsPlain bytes.now) }
+{
+    text.extend_from_slice(bytes)?;
+    Ok(!bytes.is_empty() && !call_for_quotes(bytes))
+}
+
+// Whether a byte calls for quotes round its field.
+fn call_for_quotes(bytes: &[u8]) -> bool
+    ensures { result ≡ needs_quotes default_writer bytes.now }
+{
+    bytes.iter().any(|byte| calls_for_quotes(*byte))
+}
+
+// Whether this is such a byte: a comma, a quote or the end of a line.
+#[tactic(auto, using(crate::proofs::QuoteLaws::quote_byte))]
+fn calls_for_quotes(byte: u8) -> bool
+    ensures { result ≡ needs_byte default_writer byte }
+{
+    byte == b',' || byte == b'"' || byte == b'\r' || byte == b'\n'
 }
 
 // The record of the fields that show values.
