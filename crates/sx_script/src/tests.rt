@@ -1,0 +1,192 @@
+// Worked scripts, and scripts with the faults that people make.
+use crate::*;
+use std::alloc::{AllocError, Global};
+use std::test::Fail;
+use sx_journal::What;
+use sx_lists::Copied;
+use sx_log::Load;
+use sx_sync::Strategy;
+use sx_values::Declared;
+
+// Spelled otherwise than it is printed: a comment, an empty line, quotes that aren't needed, no last line feed.
+const ORDERS: &[u8] =
+    b"# orders\ntable t id:int* name:text note:text?\n\nrow t 1,\"Ole\",NULL\nrow t -9,\"a \"\"b\"\", c\",\"\"\nchange part t if name<>'O''Hara, \"x\"' into low_1 high_2\nc1 begin\nc1 update t 1,NULL,NULL\nc1 delete t 2\nc1 commit";
+
+const ORDERS_TEXT: &[u8] =
+    b"table t id:int* name:text note:text?\nrow t 1,Ole,NULL\nrow t -9,\"a \"\"b\"\", c\",\nchange part t if name<>'O''Hara, \"x\"' into low_1 high_2\nc1 begin\nc1 update t 1,NULL,NULL\nc1 delete t 2\nc1 commit\n";
+
+#[test]
+fn a_script_is_read_and_printed(rt: HostRuntime) -> Result<(), Fail> {
+    let alloc = rt.alloc();
+    let script = parse_script(alloc, ORDERS)?;
+    let text = print_script(alloc, &script)?;
+    assert_eq!(rt; text.as_slice(), ORDERS_TEXT);
+    Ok(())
+}
+
+#[test]
+fn a_copy_is_put_behind_other_bytes(rt: HostRuntime) -> Result<(), Fail> {
+    let alloc = rt.alloc();
+    let script = parse_script(alloc, b"c1 begin\n\nc1 commit")?;
+    let mut out = Vec::from_slice(alloc, b"script\n")?;
+    put_script(alloc, &mut out, &script.copy(alloc)?)?;
+    assert_eq!(rt; out.as_slice(), b"script\nc1 begin\nc1 commit\n".as_slice());
+    Ok(())
+}
+
+// Puts a line's text and a line feed at the end.
+fn put_ended(alloc: Global, out: &mut Vec<u8>, line: &Line) -> Result<(), AllocError> {
+    put_line(alloc, out, &line.copy(alloc)?)?;
+    out.extend_from_slice(b"\n")
+}
+
+fn put_table(alloc: Global, out: &mut Vec<u8>, table: &Declared) -> Result<(), AllocError> {
+    let name = table.name.copy(alloc)?;
+    let schema = table.schema.copy(alloc)?;
+    put_ended(alloc, out, &Line::Table { name, schema })
+}
+
+#[test]
+fn tables_are_declared(rt: HostRuntime) -> Result<(), Fail> {
+    let alloc = rt.alloc();
+    let script = parse_script(alloc, ORDERS)?;
+    let catalog = script.catalog(alloc)?;
+    let mut out = Vec::new(alloc);
+    for table in catalog.tables() {
+        put_table(alloc, &mut out, table)?;
+    }
+    assert_eq!(rt;
+        out.as_slice(),
+        b"table t id:int* name:text note:text?\n".as_slice()
+    );
+    Ok(())
+}
+
+fn put_load(alloc: Global, out: &mut Vec<u8>, load: &Load) -> Result<(), AllocError> {
+    let table = load.table.copy(alloc)?;
+    let row = load.row.copy(alloc)?;
+    put_ended(alloc, out, &Line::Row { table, row })
+}
+
+#[test]
+fn rows_are_loaded(rt: HostRuntime) -> Result<(), Fail> {
+    let alloc = rt.alloc();
+    let script = parse_script(alloc, ORDERS)?;
+    let loads = script.loads(alloc)?;
+    let mut out = Vec::new(alloc);
+    for load in loads.as_slice() {
+        put_load(alloc, &mut out, load)?;
+    }
+    assert_eq!(rt;
+        out.as_slice(),
+        b"row t 1,Ole,NULL\nrow t -9,\"a \"\"b\"\", c\",\n".as_slice()
+    );
+    Ok(())
+}
+
+fn put_asked(alloc: Global, out: &mut Vec<u8>, asked: &Asked) -> Result<(), AllocError> {
+    let Asked { client, request } = asked.copy(alloc)?;
+    let what = What::Ask(request);
+    put_ended(alloc, out, &Line::Client { n: client, what })
+}
+
+#[test]
+fn requests_are_asked(rt: HostRuntime) -> Result<(), Fail> {
+    let alloc = rt.alloc();
+    let script = parse_script(alloc, ORDERS)?;
+    let asked = script.asked(alloc)?;
+    let mut out = Vec::new(alloc);
+    for one in asked.as_slice() {
+        put_asked(alloc, &mut out, one)?;
+    }
+    assert_eq!(rt;
+        out.as_slice(),
+        b"c1 begin\nc1 update t 1,NULL,NULL\nc1 delete t 2\nc1 commit\n".as_slice()
+    );
+    Ok(())
+}
+
+#[test]
+fn the_change_is_found(rt: HostRuntime) -> Result<(), Fail> {
+    let alloc = rt.alloc();
+    let script = parse_script(alloc, b"table t id:int*\nchange part t if id>=0 into a b")?;
+    let mut out = Vec::new(alloc);
+    if let Some(spec) = script.change() {
+        let spec = spec.copy(alloc)?;
+        put_ended(alloc, &mut out, &Line::Change { spec })?;
+    }
+    assert_eq!(rt;
+        out.as_slice(),
+        b"change part t if id>=0 into a b\n".as_slice()
+    );
+    Ok(())
+}
+
+#[test]
+fn lines_have_places(rt: HostRuntime) -> Result<(), Fail> {
+    let alloc = rt.alloc();
+    let script = parse_script(alloc, ORDERS)?;
+    let mut out = Vec::new(alloc);
+    if let Some(line) = script.at(6) {
+        put_ended(alloc, &mut out, line)?;
+    }
+    assert_eq!(rt; out.as_slice(), b"c1 update t 1,NULL,NULL\n".as_slice());
+    assert_eq!(rt; script.len(), 8);
+    assert!(rt; script.at(9).is_none());
+    Ok(())
+}
+
+// No script has lines of these forms yet.
+#[test]
+fn other_lines_are_printed(rt: HostRuntime) -> Result<(), Fail> {
+    let alloc = rt.alloc();
+    let strategy = Strategy::NonBlockingAbort;
+    let what = What::Abort;
+    let mut out = Vec::new(alloc);
+    put_ended(alloc, &mut out, &Line::Strategy { strategy })?;
+    put_ended(alloc, &mut out, &Line::Retries { n: 3 })?;
+    put_ended(alloc, &mut out, &Line::Client { n: 8, what })?;
+    put_ended(alloc, &mut out, &Line::Pace(PropLine::Scan { n: 64 }))?;
+    assert_eq!(rt;
+        out.as_slice(),
+        b"strategy abort\nretries 3\nc8 abort\np scan 64\n".as_slice()
+    );
+    Ok(())
+}
+
+const LATER: ScriptFault = ScriptFault::Bad {
+    line: 0,
+    cause: ScriptCause::Later,
+};
+
+#[test]
+fn faulty_scripts_are_refused(rt: HostRuntime) {
+    for bytes in [
+        // A field is missing, is one too many, or isn't a number.
+        b"table t id:int* q:int?\nrow t 1".as_slice(),
+        b"table t id:int* q:int?\nrow t 1,2,3".as_slice(),
+        b"table t id:int* q:int?\nrow t 1,05".as_slice(),
+        // A Null where none may be, and a key that stands twice.
+        b"table t id:int* q:int\nrow t 1,NULL".as_slice(),
+        b"table t id:int* q:int\nrow t 1,2\nrow t 1,3".as_slice(),
+        // No key, a second table, and a table that isn't there.
+        b"table t id:int".as_slice(),
+        b"table t id:int*\ntable u id:int*".as_slice(),
+        b"table t id:int*\nrow u 1".as_slice(),
+        // A constant of another kind, and a row behind a client's line.
+        b"table t id:int*\nchange part t if id<'a' into low high".as_slice(),
+        b"table t id:int*\nc1 begin\nrow t 1\nc1 commit".as_slice(),
+        // A second client, a block that stays open, and a write outside of one.
+        b"c2 begin\nc2 commit".as_slice(),
+        b"c1 begin".as_slice(),
+        b"table t id:int*\nc1 insert t 1".as_slice(),
+        // A byte that isn't printable.
+        b"# a tab\there".as_slice(),
+    ] {
+        assert_eq!(rt;
+            parse_script(rt.alloc(), bytes).err(),
+            Some(LATER),
+            "in {bytes:?}"
+        );
+    }
+}
