@@ -161,32 +161,29 @@ const LATER: ScriptFault = ScriptFault::Bad {
 
 #[test]
 fn faulty_scripts_are_refused(rt: HostRuntime) {
-    for bytes in [
+    for text in [
         // A field is missing, is one too many, or isn't a number.
-        b"table t id:int* q:int?\nrow t 1".as_slice(),
-        b"table t id:int* q:int?\nrow t 1,2,3".as_slice(),
-        b"table t id:int* q:int?\nrow t 1,05".as_slice(),
+        "table t id:int* q:int?\nrow t 1",
+        "table t id:int* q:int?\nrow t 1,2,3",
+        "table t id:int* q:int?\nrow t 1,05",
         // A Null where none may be, and a key that stands twice.
-        b"table t id:int* q:int\nrow t 1,NULL".as_slice(),
-        b"table t id:int* q:int\nrow t 1,2\nrow t 1,3".as_slice(),
+        "table t id:int* q:int\nrow t 1,NULL",
+        "table t id:int* q:int\nrow t 1,2\nrow t 1,3",
         // No key, a second table, and a table that isn't there.
-        b"table t id:int".as_slice(),
-        b"table t id:int*\ntable u id:int*".as_slice(),
-        b"table t id:int*\nrow u 1".as_slice(),
+        "table t id:int",
+        "table t id:int*\ntable u id:int*",
+        "table t id:int*\nrow u 1",
         // A constant of another kind, and a row behind a client's line.
-        b"table t id:int*\nchange part t if id<'a' into low high".as_slice(),
-        b"table t id:int*\nc1 begin\nrow t 1\nc1 commit".as_slice(),
+        "table t id:int*\nchange part t if id<'a' into low high",
+        "table t id:int*\nc1 begin\nrow t 1\nc1 commit",
         // A second client, a block that stays open, and a write outside of one.
-        b"c2 begin\nc2 commit".as_slice(),
-        b"c1 begin".as_slice(),
-        b"table t id:int*\nc1 insert t 1".as_slice(),
+        "c2 begin\nc2 commit",
+        "c1 begin",
+        "table t id:int*\nc1 insert t 1",
         // A byte that isn't printable.
-        b"# a tab\there".as_slice(),
+        "# a tab\there",
     ] {
-        assert_eq!(rt;
-            parse_script(rt.alloc(), bytes).err(),
-            Some(LATER),
-            "in {bytes:?}"
-        );
+        let fault = parse_script(rt.alloc(), text.as_bytes()).err();
+        assert_eq!(rt; fault, Some(LATER), "in {text:?}");
     }
 }
