@@ -5,6 +5,7 @@ use std::test::Fail;
 use sx_journal::What;
 use sx_lists::Copied;
 use sx_log::Load;
+use sx_ops::Spec;
 use sx_sync::Strategy;
 use sx_values::Declared;
 
@@ -15,10 +16,15 @@ const ORDERS: &[u8] =
 const ORDERS_TEXT: &[u8] =
     b"table t id:int* name:text note:text?\nrow t 1,Ole,NULL\nrow t -9,\"a \"\"b\"\", c\",\nchange part t if name<>'O''Hara, \"x\"' into low_1 high_2\nc1 begin\nc1 update t 1,NULL,NULL\nc1 delete t 2\nc1 commit\n";
 
+// The script that a text is.
+fn read(alloc: Global, text: &[u8]) -> Result<Script, Fail> {
+    Ok(parse_script(alloc, text)?)
+}
+
 #[test]
 fn a_script_is_read_and_printed(rt: HostRuntime) -> Result<(), Fail> {
     let alloc = rt.alloc();
-    let script = parse_script(alloc, ORDERS)?;
+    let script = read(alloc, ORDERS)?;
     let text = print_script(alloc, &script)?;
     assert_eq!(rt; text.as_slice(), ORDERS_TEXT);
     Ok(())
@@ -27,7 +33,7 @@ fn a_script_is_read_and_printed(rt: HostRuntime) -> Result<(), Fail> {
 #[test]
 fn a_copy_is_put_behind_other_bytes(rt: HostRuntime) -> Result<(), Fail> {
     let alloc = rt.alloc();
-    let script = parse_script(alloc, b"c1 begin\n\nc1 commit")?;
+    let script = read(alloc, b"c1 begin\n\nc1 commit")?;
     let mut out = Vec::from_slice(alloc, b"script\n")?;
     put_script(alloc, &mut out, &script.copy(alloc)?)?;
     assert_eq!(rt; out.as_slice(), b"script\nc1 begin\nc1 commit\n".as_slice());
@@ -46,17 +52,22 @@ fn put_table(alloc: Global, out: &mut Vec<u8>, table: &Declared) -> Result<(), A
     put_ended(alloc, out, &Line::Table { name, schema })
 }
 
+fn tables_text(alloc: Global, tables: &[Declared]) -> Result<Vec<u8>, AllocError> {
+    let mut out = Vec::new(alloc);
+    for table in tables {
+        put_table(alloc, &mut out, table)?;
+    }
+    Ok(out)
+}
+
 #[test]
 fn tables_are_declared(rt: HostRuntime) -> Result<(), Fail> {
     let alloc = rt.alloc();
-    let script = parse_script(alloc, ORDERS)?;
+    let script = read(alloc, ORDERS)?;
     let catalog = script.catalog(alloc)?;
-    let mut out = Vec::new(alloc);
-    for table in catalog.tables() {
-        put_table(alloc, &mut out, table)?;
-    }
+    let text = tables_text(alloc, catalog.tables())?;
     assert_eq!(rt;
-        out.as_slice(),
+        text.as_slice(),
         b"table t id:int* name:text note:text?\n".as_slice()
     );
     Ok(())
@@ -68,17 +79,22 @@ fn put_load(alloc: Global, out: &mut Vec<u8>, load: &Load) -> Result<(), AllocEr
     put_ended(alloc, out, &Line::Row { table, row })
 }
 
+fn loads_text(alloc: Global, loads: &[Load]) -> Result<Vec<u8>, AllocError> {
+    let mut out = Vec::new(alloc);
+    for load in loads {
+        put_load(alloc, &mut out, load)?;
+    }
+    Ok(out)
+}
+
 #[test]
 fn rows_are_loaded(rt: HostRuntime) -> Result<(), Fail> {
     let alloc = rt.alloc();
-    let script = parse_script(alloc, ORDERS)?;
+    let script = read(alloc, ORDERS)?;
     let loads = script.loads(alloc)?;
-    let mut out = Vec::new(alloc);
-    for load in loads.as_slice() {
-        put_load(alloc, &mut out, load)?;
-    }
+    let text = loads_text(alloc, loads.as_slice())?;
     assert_eq!(rt;
-        out.as_slice(),
+        text.as_slice(),
         b"row t 1,Ole,NULL\nrow t -9,\"a \"\"b\"\", c\",\n".as_slice()
     );
     Ok(())
@@ -90,47 +106,62 @@ fn put_asked(alloc: Global, out: &mut Vec<u8>, asked: &Asked) -> Result<(), Allo
     put_ended(alloc, out, &Line::Client { n: client, what })
 }
 
+fn asked_text(alloc: Global, asked: &[Asked]) -> Result<Vec<u8>, AllocError> {
+    let mut out = Vec::new(alloc);
+    for one in asked {
+        put_asked(alloc, &mut out, one)?;
+    }
+    Ok(out)
+}
+
 #[test]
 fn requests_are_asked(rt: HostRuntime) -> Result<(), Fail> {
     let alloc = rt.alloc();
-    let script = parse_script(alloc, ORDERS)?;
+    let script = read(alloc, ORDERS)?;
     let asked = script.asked(alloc)?;
-    let mut out = Vec::new(alloc);
-    for one in asked.as_slice() {
-        put_asked(alloc, &mut out, one)?;
-    }
+    let text = asked_text(alloc, asked.as_slice())?;
     assert_eq!(rt;
-        out.as_slice(),
+        text.as_slice(),
         b"c1 begin\nc1 update t 1,NULL,NULL\nc1 delete t 2\nc1 commit\n".as_slice()
     );
     Ok(())
 }
 
-#[test]
-fn the_change_is_found(rt: HostRuntime) -> Result<(), Fail> {
-    let alloc = rt.alloc();
-    let script = parse_script(alloc, b"table t id:int*\nchange part t if id>=0 into a b")?;
+fn change_text(alloc: Global, change: Option<&Spec>) -> Result<Vec<u8>, AllocError> {
     let mut out = Vec::new(alloc);
-    if let Some(spec) = script.change() {
+    if let Some(spec) = change {
         let spec = spec.copy(alloc)?;
         put_ended(alloc, &mut out, &Line::Change { spec })?;
     }
+    Ok(out)
+}
+
+#[test]
+fn the_change_is_found(rt: HostRuntime) -> Result<(), Fail> {
+    let alloc = rt.alloc();
+    let script = read(alloc, b"table t id:int*\nchange part t if id>=0 into a b")?;
+    let text = change_text(alloc, script.change())?;
     assert_eq!(rt;
-        out.as_slice(),
+        text.as_slice(),
         b"change part t if id>=0 into a b\n".as_slice()
     );
     Ok(())
 }
 
+fn line_text(alloc: Global, line: Option<&Line>) -> Result<Vec<u8>, AllocError> {
+    let mut out = Vec::new(alloc);
+    if let Some(line) = line {
+        put_ended(alloc, &mut out, line)?;
+    }
+    Ok(out)
+}
+
 #[test]
 fn lines_have_places(rt: HostRuntime) -> Result<(), Fail> {
     let alloc = rt.alloc();
-    let script = parse_script(alloc, ORDERS)?;
-    let mut out = Vec::new(alloc);
-    if let Some(line) = script.at(6) {
-        put_ended(alloc, &mut out, line)?;
-    }
-    assert_eq!(rt; out.as_slice(), b"c1 update t 1,NULL,NULL\n".as_slice());
+    let script = read(alloc, ORDERS)?;
+    let text = line_text(alloc, script.at(6))?;
+    assert_eq!(rt; text.as_slice(), b"c1 update t 1,NULL,NULL\n".as_slice());
     assert_eq!(rt; script.len(), 8);
     assert!(rt; script.at(9).is_none());
     Ok(())
