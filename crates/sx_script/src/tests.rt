@@ -60,12 +60,16 @@ fn tables_text(alloc: Global, tables: &[Declared]) -> Result<Vec<u8>, AllocError
     Ok(out)
 }
 
+fn tables_of(alloc: Global, script: &Script) -> Result<Vec<u8>, AllocError> {
+    let catalog = script.catalog(alloc)?;
+    tables_text(alloc, catalog.tables())
+}
+
 #[test]
 fn tables_are_declared(rt: HostRuntime) -> Result<(), Fail> {
     let alloc = rt.alloc();
     let script = read(alloc, ORDERS)?;
-    let catalog = script.catalog(alloc)?;
-    let text = tables_text(alloc, catalog.tables())?;
+    let text = tables_of(alloc, &script)?;
     assert_eq!(rt;
         text.as_slice(),
         b"table t id:int* name:text note:text?\n".as_slice()
@@ -87,12 +91,16 @@ fn loads_text(alloc: Global, loads: &[Load]) -> Result<Vec<u8>, AllocError> {
     Ok(out)
 }
 
+fn loads_of(alloc: Global, script: &Script) -> Result<Vec<u8>, AllocError> {
+    let loads = script.loads(alloc)?;
+    loads_text(alloc, loads.as_slice())
+}
+
 #[test]
 fn rows_are_loaded(rt: HostRuntime) -> Result<(), Fail> {
     let alloc = rt.alloc();
     let script = read(alloc, ORDERS)?;
-    let loads = script.loads(alloc)?;
-    let text = loads_text(alloc, loads.as_slice())?;
+    let text = loads_of(alloc, &script)?;
     assert_eq!(rt;
         text.as_slice(),
         b"row t 1,Ole,NULL\nrow t -9,\"a \"\"b\"\", c\",\n".as_slice()
@@ -114,12 +122,16 @@ fn asked_text(alloc: Global, asked: &[Asked]) -> Result<Vec<u8>, AllocError> {
     Ok(out)
 }
 
+fn asked_of(alloc: Global, script: &Script) -> Result<Vec<u8>, AllocError> {
+    let asked = script.asked(alloc)?;
+    asked_text(alloc, asked.as_slice())
+}
+
 #[test]
 fn requests_are_asked(rt: HostRuntime) -> Result<(), Fail> {
     let alloc = rt.alloc();
     let script = read(alloc, ORDERS)?;
-    let asked = script.asked(alloc)?;
-    let text = asked_text(alloc, asked.as_slice())?;
+    let text = asked_of(alloc, &script)?;
     assert_eq!(rt;
         text.as_slice(),
         b"c1 begin\nc1 update t 1,NULL,NULL\nc1 delete t 2\nc1 commit\n".as_slice()
