@@ -181,19 +181,21 @@ fn lines_have_places(rt: HostRuntime) -> Result<(), Fail> {
 
 // No script has lines of these forms yet.
 #[test]
-fn other_lines_are_printed(rt: HostRuntime) -> Result<(), Fail> {
+fn strategies_are_printed(rt: HostRuntime) -> Result<(), Fail> {
     let alloc = rt.alloc();
     let strategy = Strategy::NonBlockingAbort;
-    let what = What::Abort;
-    let mut out = Vec::new(alloc);
-    put_ended(alloc, &mut out, &Line::Strategy { strategy })?;
-    put_ended(alloc, &mut out, &Line::Retries { n: 3 })?;
-    put_ended(alloc, &mut out, &Line::Client { n: 8, what })?;
-    put_ended(alloc, &mut out, &Line::Pace(PropLine::Scan { n: 64 }))?;
-    assert_eq!(rt;
-        out.as_slice(),
-        b"strategy abort\nretries 3\nc8 abort\np scan 64\n".as_slice()
-    );
+    let line = Line::Strategy { strategy };
+    let text = line_text(alloc, Some(&line))?;
+    assert_eq!(rt; text.as_slice(), b"strategy abort\n".as_slice());
+    Ok(())
+}
+
+#[test]
+fn steps_are_printed(rt: HostRuntime) -> Result<(), Fail> {
+    let alloc = rt.alloc();
+    let line = Line::Pace(PropLine::Scan { n: 64 });
+    let text = line_text(alloc, Some(&line))?;
+    assert_eq!(rt; text.as_slice(), b"p scan 64\n".as_slice());
     Ok(())
 }
 
