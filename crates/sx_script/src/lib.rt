@@ -10,6 +10,8 @@ mod parser;
 mod plan;
 mod print;
 mod script;
+#[cfg(test)]
+mod tests;
 mod text;
 
 pub use fault::{ScriptCause, ScriptFault};
