@@ -6,6 +6,8 @@ mod copies;
 mod lists;
 mod reserved;
 mod same;
+#[cfg(test)]
+mod tests;
 
 pub use copies::{Copied, copies_of};
 pub use lists::List;

@@ -2,6 +2,8 @@
 #![tactic(auto)]
 
 mod record;
+#[cfg(test)]
+mod tests;
 
 pub use record::{Body, Load, Rec};
 use sx_lists::{List, Reserved};

@@ -8,6 +8,8 @@ mod name;
 mod plain;
 mod row;
 mod schema;
+#[cfg(test)]
+mod tests;
 mod text;
 mod value;
 
