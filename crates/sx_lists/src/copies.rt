@@ -30,11 +30,18 @@ impl<T: Copied> Copied for Option<T> {
 pub fn copies_of<T: Copied + Drop>(alloc: Global, items: &[T]) -> Result<List<T>, AllocError>
     ensures { IfOk result (λ copies. copies ≡ items.now) }
 {
-    let mut copies = Vec::new(alloc);
+    let mut copies = Vec::with_capacity(alloc, items.len())?;
     for item in items {
         copies.push(item.copy(alloc)?)?;
     }
     Ok(List::from_vec(copies))
+}
+
+/// A copy of bytes, all at once.
+pub fn bytes_of(alloc: Global, bytes: &[u8]) -> Result<List<u8>, AllocError>
+    ensures { IfOk result (λ copies. copies ≡ bytes.now) }
+{
+    Ok(List::from_vec(bytes.to_vec(alloc)?))
 }
 
 impl<T: Copied + Drop> Copied for List<T> {

@@ -9,7 +9,7 @@ mod same;
 #[cfg(test)]
 mod tests;
 
-pub use copies::{Copied, copies_of};
+pub use copies::{Copied, bytes_of, copies_of};
 pub use lists::List;
 pub use reserved::Reserved;
 pub use same::{Same, all_same};

@@ -12,6 +12,9 @@ use std::alloc::{AllocError, Global};
 use sx_lists::List;
 use sx_values::{Key, Row, Value};
 
+// Room for the records of most rows, which saves growing.
+const USUAL_BYTES: usize = 32;
+
 /// The CSV record that shows a row, without a line's end.
 pub fn text_of(alloc: Global, row: &Row) -> Result<List<u8>, AllocError>
     ensures text { IfOk result (λ text. text ≡ record_text row.now) }
@@ -77,7 +80,7 @@ fn plain_record(alloc: Global, first: &Value, rest: &[Value]) -> Result<Option<V
     ensures text { IfOk result (λ found. IfSome found (λ text. text.items ≡ record_text (first.now ∷ rest.now))) }
     ensures values { IfOk result (λ found. OnSome found (IsTrue (are_values (first.now ∷ rest.now)))) }
 {
-    let mut text = Vec::new(alloc);
+    let mut text = Vec::with_capacity(alloc, USUAL_BYTES)?;
     if !put_field(&mut text, first)? {
         return Ok(None);
     }

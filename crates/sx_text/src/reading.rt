@@ -87,7 +87,7 @@ fn values_of(alloc: Global, kinds: &[Kind], fields: &[&[u8]]) -> Result<List<Val
     if fields.len() != kinds.len() {
         return Err(FieldFault::Width);
     }
-    let mut values = Vec::new(alloc);
+    let mut values = Vec::with_capacity(alloc, fields.len())?;
     for (index, field) in fields.iter().enumerate() {
         match value_of(alloc, kinds[index], field)? {
             Some(value) => values.push(value)?,

@@ -5,7 +5,7 @@ ghost use Rattle.sx_values.specs.Texts.{is_name, is_lower, is_name_byte};
 
 use std::alloc::{AllocError, Global};
 use std::marker::Model;
-use sx_lists::{Copied, List, Same, copies_of};
+use sx_lists::{Copied, List, Same, bytes_of};
 
 /// A lower-case letter followed by up to 31 lower-case letters, digits and underscores.
 #[derive(Debug, Drop, PartialEq, Eq, PartialOrd, Ord)]
@@ -49,7 +49,7 @@ impl Name {
         if !is_name(bytes) {
             return Err(NameFault::BadName);
         }
-        match copies_of(alloc, bytes) {
+        match bytes_of(alloc, bytes) {
             Ok(bytes) => Ok(Name { bytes }),
             Err(_) => Err(NameFault::Memory),
         }
@@ -66,7 +66,7 @@ impl Name {
 
 impl Copied for Name {
     fn copy(&self, alloc: Global) -> Result<Self, AllocError> {
-        let bytes = self.bytes.copy(alloc)?;
+        let bytes = bytes_of(alloc, self.bytes.as_slice())?;
         Ok(Name { bytes })
     }
 }

@@ -176,7 +176,7 @@ fn values_at(alloc: Global, row: &[Value], places: &[u64]) -> Result<List<Value>
     requires { All (λ place. place < length row.now) places.now }
     ensures { IfOk result (λ values. values ≡ projected places.now row.now) }
 {
-    let mut values = Vec::new(alloc);
+    let mut values = Vec::with_capacity(alloc, places.len())?;
     for place in places {
         values.push(row[*place as usize].copy(alloc)?)?;
     }

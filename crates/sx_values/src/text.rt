@@ -7,7 +7,7 @@ ghost use Rattle.sx_lists.specs.Answers.{RefusesBy};
 
 use std::alloc::{AllocError, Global};
 use std::marker::Model;
-use sx_lists::{Copied, List, Same, copies_of};
+use sx_lists::{Copied, List, Same, bytes_of};
 
 /// Up to 64 printable bytes that aren't the word `NULL`.
 #[derive(Debug, Drop, PartialEq, Eq, PartialOrd, Ord)]
@@ -53,7 +53,7 @@ impl Text {
         if let Some(fault) = fault_of(bytes) {
             return Err(fault);
         }
-        match copies_of(alloc, bytes) {
+        match bytes_of(alloc, bytes) {
             Ok(bytes) => Ok(Text { bytes }),
             Err(_) => Err(TextFault::Memory),
         }
@@ -70,7 +70,7 @@ impl Text {
 
 impl Copied for Text {
     fn copy(&self, alloc: Global) -> Result<Self, AllocError> {
-        let bytes = self.bytes.copy(alloc)?;
+        let bytes = bytes_of(alloc, self.bytes.as_slice())?;
         Ok(Text { bytes })
     }
 }

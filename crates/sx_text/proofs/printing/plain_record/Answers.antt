@@ -8,7 +8,7 @@ use Rattle.sx_text.proofs.printing.plain_record.Goals as goal
 pub loop-value-init : goal.loop-value-init
 loop-value-init c =
     let plain = c.in_ok-put_field.ensures.plain c.if-not-branch.false in
-    let text = c.in_ok-put_field.ensures.text ∙ ap (λ t. t ++ field_of c.args.first.now) c.new-text.ensures.items in
+    let text = c.in_ok-put_field.ensures.text ∙ ap (λ t. t ++ field_of c.args.first.now) c.in_ok-text.ensures.items in
     record {
       joined = first_field c.put_field.new.text.items (field_of c.args.first.now) (map field_of c.args.rest.now) plain text;
       shown = shows_some (field_of c.args.first.now) (map field_of c.args.rest.now) plain;
