@@ -6,6 +6,8 @@ mod entry;
 mod record;
 mod report;
 mod tables;
+#[cfg(test)]
+mod tests;
 mod words;
 
 pub use end::ReportEnd;

@@ -1,0 +1,116 @@
+// Lines of the log and of the end whose texts are known beforehand.
+use crate::end::put_end;
+use crate::{ReportEnd, print_log_line};
+use std::alloc::Global;
+use std::process::Abort;
+use std::test::Fail;
+use sx_log::{Body, Rec};
+use sx_values::{Key, Name, Row, Text, Value};
+
+fn name(alloc: Global) -> Result<Name, Fail> {
+    Ok(Name::new(alloc, b"t")?)
+}
+
+fn key(alloc: Global, id: i64) -> Result<Key, Fail> {
+    let mut key = Key::new(alloc);
+    key.push(Value::Int(id))?;
+    Ok(key)
+}
+
+fn city(alloc: Global, bytes: &[u8]) -> Result<Key, Fail> {
+    let mut key = Key::new(alloc);
+    key.push(Value::Text(Text::new(alloc, bytes)?))?;
+    Ok(key)
+}
+
+fn row(alloc: Global, id: i64, q: Value) -> Result<Row, Fail> {
+    let mut row = Row::new(alloc);
+    row.push(Value::Int(id))?;
+    row.push(q)?;
+    Ok(row)
+}
+
+// The record of LSN 8 and transaction 3 has the line beside it.
+fn tells(rt: &impl Abort, alloc: Global, body: Body, line: &[u8]) -> Result<(), Fail> {
+    let text = print_log_line(alloc, 8, &Rec { txn: 3, body })?;
+    assert_eq!(rt; text.as_slice(), line);
+    Ok(())
+}
+
+// A write of the row (2, 5) in the place of none, or the other way round.
+fn write(alloc: Global, before: Option<Row>, after: Option<Row>) -> Result<Body, Fail> {
+    Ok(Body::Write {
+        table: name(alloc)?,
+        key: key(alloc, 2)?,
+        before,
+        after,
+    })
+}
+
+// The undoing of such a write.
+fn undo(alloc: Global, before: Option<Row>, after: Option<Row>) -> Result<Body, Fail> {
+    Ok(Body::Undo {
+        undoes: 6,
+        table: name(alloc)?,
+        key: key(alloc, 2)?,
+        before,
+        after,
+    })
+}
+
+#[test]
+fn records_of_rows(rt: HostRuntime) -> Result<(), Fail> {
+    let alloc = rt.alloc();
+    let puts = write(alloc, None, Some(row(alloc, 2, Value::Int(5))?))?;
+    tells(&rt, alloc, puts, b"8 3 put t 2,5\n")?;
+    let takes = write(alloc, Some(row(alloc, 2, Value::Int(5))?), None)?;
+    tells(&rt, alloc, takes, b"8 3 del t 2\n")
+}
+
+#[test]
+fn records_of_undone_rows(rt: HostRuntime) -> Result<(), Fail> {
+    let alloc = rt.alloc();
+    let puts = undo(alloc, None, Some(row(alloc, 2, Value::Int(5))?))?;
+    tells(&rt, alloc, puts, b"8 3 back 6 put t 2,5\n")?;
+    let takes = undo(alloc, Some(row(alloc, 2, Value::Int(5))?), None)?;
+    tells(&rt, alloc, takes, b"8 3 back 6 del t 2\n")
+}
+
+#[test]
+fn records_of_turns(rt: HostRuntime) -> Result<(), Fail> {
+    let alloc = rt.alloc();
+    let checked = Body::Check {
+        group: key(alloc, 5)?,
+        dep: city(alloc, b"Oslo")?,
+    };
+    for (body, line) in vec![in alloc;
+        (Body::Commit, b"8 3 commit\n".as_slice()),
+        (Body::Abort, b"8 3 abort\n".as_slice()),
+        (Body::Mark, b"8 p mark\n".as_slice()),
+        (checked, b"8 p check 5,Oslo\n".as_slice()),
+        (Body::Switch, b"8 p switch\n".as_slice()),
+    ]? {
+        tells(&rt, alloc, body, line)?;
+    }
+    Ok(())
+}
+
+#[test]
+fn ends(rt: HostRuntime) -> Result<(), Fail> {
+    let alloc = rt.alloc();
+    let violated = ReportEnd::Violated {
+        first: key(alloc, 4)?,
+        second: city(alloc, b"a b")?,
+    };
+    for (end, line) in vec![in alloc;
+        (ReportEnd::NoChange, b"end none\n".as_slice()),
+        (ReportEnd::Switched, b"end switched\n".as_slice()),
+        (violated, b"end violated 4,a b\n".as_slice()),
+        (ReportEnd::Full, b"end full\n".as_slice()),
+    ]? {
+        let mut out = Vec::new(alloc);
+        put_end(alloc, &mut out, &end)?;
+        assert_eq!(rt; out.as_slice(), line);
+    }
+    Ok(())
+}
