@@ -4,6 +4,8 @@
 mod seen;
 mod table;
 mod tables;
+#[cfg(test)]
+mod tests;
 mod walk;
 
 pub use seen::{Seen, Seens};

@@ -3,6 +3,8 @@
 
 mod copies;
 mod entry;
+#[cfg(test)]
+mod tests;
 
 pub use entry::{Entry, Event, Reply, Request, What};
 use sx_lists::Reserved;

@@ -1,6 +1,9 @@
 //! How old transactions are dealt with at a switch, and how far a transformation has come.
 #![tactic(auto)]
 
+#[cfg(test)]
+mod tests;
+
 use std::alloc::{AllocError, Global};
 use sx_lists::Copied;
 
