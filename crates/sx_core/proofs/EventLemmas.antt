@@ -1,5 +1,5 @@
 -- What the propagator's events ask for, and what a turn says of its answer: over plain variables.
-use Rattle.std.proofs.Common.{◌≡◌, ◌≤◌, ◌<◌, ◌∷◌, [], ℕ, List, length, map, Option, Some, None, Bool, true, false, IfSome, IsSomeAnd, IsSome, refl, sym, ◌∙◌, ap, subst, if◌then◌else◌}
+use Rattle.std.proofs.Common.{◌≡◌, ℕ, List, Option, Some, None, Bool, IfSome, IsSomeAnd, IsSome, refl, sym, ◌∙◌, ap, subst, if◌then◌else◌}
 use Rattle.sx_values.specs.declared.value.Value.{Value}
 use Rattle.sx_values.specs.declared.catalog.Declared.{Declared}
 use Rattle.sx_values.specs.Catalogs.{schema_of}
@@ -18,9 +18,9 @@ use Rattle.sx_journal.specs.declared.entry.Event.TheVariants.{Start, Scan, Switc
 use Rattle.sx_journal.specs.declared.entry.Reply.{Reply}
 use Rattle.sx_sync.specs.declared.Strategy.{Strategy}
 use Rattle.sx_model.specs.Openings.{Opening}
-use Rattle.sx_model.specs.Leaves.{Started, phase, living}
+use Rattle.sx_model.specs.Leaves.{phase, living}
 use Rattle.sx_model.specs.Replies.{start_reply}
-use Rattle.sx_model.specs.Switches.{switch_reply, has_lock_on, conflict}
+use Rattle.sx_model.specs.Switches.{switch_reply, has_lock_on}
 use Rattle.sx_model.specs.Legal.{Allows, ScanAnswer}
 use Rattle.sx_core.specs.Machines.{Machine, Turns}
 use Rattle.sx_core.specs.Kept.{IsKept, TablesMeet, living_as}

@@ -1,5 +1,5 @@
 -- The rows of the new tables: filled in key order, and those of the source before.
-use Rattle.std.proofs.Common.{◌≡◌, ◌∷◌, ◌++◌, ◌||◌, ◌⊎◌, [], ℕ, List, Bool, true, false, cond, map, filter, not, Option, Some, None, option_map, inl, inr, length, reverse, take, nat_eq, arith, refl, sym, ◌∙◌, ap, subst}
+use Rattle.std.proofs.Common.{◌≡◌, ◌∷◌, ◌++◌, ◌||◌, ◌⊎◌, [], ℕ, List, Bool, true, false, cond, map, filter, not, Option, Some, None, Result, Ok, Err, IfOk, option_map, inl, inr, length, reverse, take, nat_eq, arith, refl, sym, ◌∙◌, ap, subst}
 use Rattle.std.specs.List.{AllByRecursion, IsDistinct}
 use Rattle.std.specs.List.Sorted.{IsStrictlySortedBy}
 use Rattle.std.specs.Ordering.{is_eq, ordering_reverse}
@@ -38,12 +38,9 @@ use Rattle.sx_journal.specs.declared.entry.Entry.{Entry}
 use Rattle.sx_model.specs.Switches.{has_lock_on}
 use Rattle.sx_model.specs.Tables.{AreRowLists}
 use Rattle.sx_core.specs.Kept.{TablesMeet, plain_rows}
+use Rattle.sx_core.specs.FreshTables.{unstamped, fresh_table, fresh_tables}
 use Rattle.sx_core.specs.Exchanges.{source_table, source_schema, bare_rows, target_names, AreInOrder, FillTargets}
 use Rattle.sx_core.proofs.TableLemmas.{admitted_rows, keys_of_rows, found_meets, rows_meet, meets_named}
-
--- a row that no record put there, with its key
-abbrev pub unstamped : Layout → List Value → Seen
-unstamped schema row = record { key = key_of schema row; row = row; lsn = 0 }
 
 abbrev pub all_unstamped : Layout → List (List Value) → List Seen
 all_unstamped schema rows = map (unstamped schema) rows
@@ -144,17 +141,33 @@ bare_unstamped schema (row ∷ rows) = ap (λ l. row ∷ l) (bare_unstamped sche
 
 -- at the end it has these rows in their order
 pub filling_done : (schema : Layout) (rows done left : List (List Value)) (table : Relation)
-    → AreInOrder schema rows → IsFilling schema rows done left table → left ≡ [] → IsRelation table → bare_rows table.rows ≡ rows
+    → AreInOrder schema rows → IsFilling schema rows done left table → left ≡ [] → IsRelation table → table ≡ fresh_table schema rows
 filling_done schema rows done left table order filling over is =
     let all : rows ≡ done = filling.whole ∙ ap (λ l. done ++ l) over ∙ append-nil done in
     let sorted = subst (IsStrictlySortedBy values_cmp) (sym (keys_unstamped schema rows)) order.in_order in
-    ap bare_rows (rows_unique table.rows (all_unstamped schema rows) is.sorted sorted (λ key. filling.rows_are key ∙ ap (λ l. row_at (all_unstamped schema l) key) (sym all)))
-    ∙ bare_unstamped schema rows
+    let rows_are = rows_unique table.rows (all_unstamped schema rows) is.sorted sorted (λ key. filling.rows_are key ∙ ap (λ l. row_at (all_unstamped schema l) key) (sym all)) in
+    λ i. record { schema = filling.schema_is i; rows = rows_are i }
+
+-- fresh tables have the names of their targets
+names_of_fresh : (targets : List Target) (lists : List (List (List Value))) → FillTargets targets lists → names_of_tables (fresh_tables targets lists) ≡ target_names targets
+names_of_fresh [] [] fill = refl
+names_of_fresh [] (rows ∷ lists) fill = refl
+names_of_fresh (target ∷ targets) [] fill = absurd fill
+names_of_fresh (target ∷ targets) (rows ∷ lists) fill = ap (λ names. target.name ∷ names) (names_of_fresh targets lists fill.1)
+
+-- and the rows of their lists
+rows_of_fresh : (targets : List Target) (lists : List (List (List Value))) → FillTargets targets lists → plain_rows (fresh_tables targets lists) ≡ lists
+rows_of_fresh [] [] fill = refl
+rows_of_fresh [] (rows ∷ lists) fill = absurd fill
+rows_of_fresh (target ∷ targets) [] fill = absurd fill
+rows_of_fresh (target ∷ targets) (rows ∷ lists) fill =
+    let here = bare_unstamped target.schema rows in
+    let rest = rows_of_fresh targets lists fill.1 in
+    λ i. here i ∷ rest i
 
 -- new tables that are being made: those of the first targets, and the others are left
 pub record AreFilling (targets left : List Target) (lists left_lists : List (List (List Value))) (tables : List NamedTable) : Type 0 where
-  pub names : names_of_tables tables ++ target_names left ≡ target_names targets
-  pub rows : plain_rows tables ++ left_lists ≡ lists
+  pub made : tables ++ fresh_tables left left_lists ≡ fresh_tables targets lists
   pub fill : FillTargets left left_lists
 
 unnamed : (tables : List NamedTable) (name : List ℕ) (names : List (List ℕ)) → IsDistinct same_name (names_of_tables tables ++ name ∷ names) → table_named tables name ≡ None
@@ -166,15 +179,23 @@ unnamed (t ∷ tables) name names apart = rw (other tables apart.0) (unnamed tab
     other [] all = all.0
     other (u ∷ rest) all = other rest all.1
 
--- the name of the next target is free
-pub filling_free : (targets left : List Target) (lists left_lists : List (List (List Value))) (tables : List NamedTable) (target : Target) (more : List Target)
-    → IsDistinct same_name (target_names targets) → AreFilling targets left lists left_lists tables → left ≡ target ∷ more → table_named tables target.name ≡ None
-filling_free targets left lists left_lists tables target more apart filling is =
-    unnamed tables target.name (target_names more) (subst (IsDistinct same_name) (sym filling.names ∙ ap (λ l. names_of_tables tables ++ target_names l) is) apart)
-
 fill_next : (left : List Target) (left_lists : List (List (List Value))) (target : Target) (more : List Target) (rows : List (List Value)) (more_lists : List (List (List Value)))
     → FillTargets left left_lists → left ≡ target ∷ more → left_lists ≡ rows ∷ more_lists → FillTargets (target ∷ more) (rows ∷ more_lists)
 fill_next left left_lists target more rows more_lists fill is are = subst (λ l. FillTargets l (rows ∷ more_lists)) is (subst (FillTargets left) are fill)
+
+made_next : (targets left : List Target) (lists left_lists : List (List (List Value))) (tables : List NamedTable) (target : Target) (more : List Target) (rows : List (List Value)) (more_lists : List (List (List Value)))
+    → AreFilling targets left lists left_lists tables → left ≡ target ∷ more → left_lists ≡ rows ∷ more_lists → tables ++ fresh_tables (target ∷ more) (rows ∷ more_lists) ≡ fresh_tables targets lists
+made_next targets left lists left_lists tables target more rows more_lists filling is are =
+    ap (λ l. tables ++ fresh_tables l (rows ∷ more_lists)) (sym is) ∙ ap (λ l. tables ++ fresh_tables left l) (sym are) ∙ filling.made
+
+-- the name of the next target is free
+pub filling_free : (targets left : List Target) (lists left_lists : List (List (List Value))) (tables : List NamedTable) (target : Target) (more : List Target) (rows : List (List Value)) (more_lists : List (List (List Value)))
+    → FillTargets targets lists → IsDistinct same_name (target_names targets) → AreFilling targets left lists left_lists tables → left ≡ target ∷ more → left_lists ≡ rows ∷ more_lists → table_named tables target.name ≡ None
+filling_free targets left lists left_lists tables target more rows more_lists fill apart filling is are =
+    let names : names_of_tables tables ++ target.name ∷ names_of_tables (fresh_tables more more_lists) ≡ target_names targets =
+    sym (map-append (λ (t : NamedTable). t.name) tables (fresh_tables (target ∷ more) (rows ∷ more_lists)))
+    ∙ ap names_of_tables (made_next targets left lists left_lists tables target more rows more_lists filling is are) ∙ names_of_fresh targets lists fill in
+    unnamed tables target.name (names_of_tables (fresh_tables more more_lists)) (subst (IsDistinct same_name) (sym names) apart)
 
 -- its rows are in order
 pub filling_order : (targets left : List Target) (lists left_lists : List (List (List Value))) (tables : List NamedTable) (target : Target) (more : List Target) (rows : List (List Value)) (more_lists : List (List (List Value)))
@@ -183,45 +204,29 @@ filling_order targets left lists left_lists tables target more rows more_lists f
 
 -- and its table is then among those that are made
 pub filling_next : (targets left : List Target) (lists left_lists : List (List (List Value))) (tables longer : List NamedTable) (target : Target) (more : List Target) (rows : List (List Value)) (more_lists : List (List (List Value))) (table : Relation)
-    → AreFilling targets left lists left_lists tables → left ≡ target ∷ more → left_lists ≡ rows ∷ more_lists → bare_rows table.rows ≡ rows
+    → AreFilling targets left lists left_lists tables → left ≡ target ∷ more → left_lists ≡ rows ∷ more_lists → table ≡ fresh_table target.schema rows
     → longer ≡ tables ++ record { name = target.name; table = table } ∷ [] → AreFilling targets more lists more_lists longer
-filling_next targets left lists left_lists tables longer target more rows more_lists table filling is are has pushed =
-    let new : NamedTable = record { name = target.name; table = table } in
+filling_next targets left lists left_lists tables longer target more rows more_lists table filling is are fresh pushed =
+    let new : NamedTable = record { name = target.name; table = fresh_table target.schema rows } in
     record {
-      names =
-          ap (λ l. names_of_tables l ++ target_names more) pushed
-          ∙ ap (λ l. l ++ target_names more) (map-append (λ (t : NamedTable). t.name) tables (new ∷ []))
-          ∙ append_assoc (names_of_tables tables) (target.name ∷ []) (target_names more)
-          ∙ ap (λ l. names_of_tables tables ++ target_names l) (sym is) ∙ filling.names;
-      rows =
-          ap (λ l. plain_rows l ++ more_lists) pushed
-          ∙ ap (λ l. l ++ more_lists) (map-append (λ (t : NamedTable). bare_rows t.table.rows) tables (new ∷ []))
-          ∙ append_assoc (plain_rows tables) (bare_rows table.rows ∷ []) more_lists
-          ∙ ap (λ r. plain_rows tables ++ r ∷ more_lists) has
-          ∙ ap (λ l. plain_rows tables ++ l) (sym are) ∙ filling.rows;
+      made =
+          ap (λ l. l ++ fresh_tables more more_lists) pushed
+          ∙ ap (λ (r : Relation). (tables ++ record { name = target.name; table = r } ∷ []) ++ fresh_tables more more_lists) fresh
+          ∙ append_assoc tables (new ∷ []) (fresh_tables more more_lists) ∙ made_next targets left lists left_lists tables target more rows more_lists filling is are;
       fill = (fill_next left left_lists target more rows more_lists filling.fill is are).1;
     }
 
--- where no target or no list is left, neither is
-neither_left : (left : List Target) (left_lists : List (List (List Value))) → FillTargets left left_lists → (left ≡ []) ⊎ (left_lists ≡ []) → (left ≡ []) × (left_lists ≡ [])
-neither_left [] [] fill over = (refl, refl)
-neither_left [] (rows ∷ lists) fill over = absurd fill
-neither_left (target ∷ targets) [] fill over = absurd fill
-neither_left (target ∷ targets) (rows ∷ lists) fill (inl none) = absurd (cc)
-neither_left (target ∷ targets) (rows ∷ lists) fill (inr none) = absurd (cc)
-
-pub record AreFilled (targets : List Target) (lists : List (List (List Value))) (tables : List NamedTable) : Type 0 where
-  pub names : names_of_tables tables ≡ target_names targets
-  pub rows : plain_rows tables ≡ lists
+-- where no target or no list is left, no table is left
+none_fresh : (left : List Target) (left_lists : List (List (List Value))) → (left ≡ []) ⊎ (left_lists ≡ []) → fresh_tables left left_lists ≡ []
+none_fresh [] left_lists over = refl
+none_fresh (target ∷ left) [] over = refl
+none_fresh (target ∷ left) (rows ∷ lists) (inl none) = absurd (cc)
+none_fresh (target ∷ left) (rows ∷ lists) (inr none) = absurd (cc)
 
 pub filling_over : (targets left : List Target) (lists left_lists : List (List (List Value))) (tables : List NamedTable)
-    → AreFilling targets left lists left_lists tables → (left ≡ []) ⊎ (left_lists ≡ []) → AreFilled targets lists tables
+    → AreFilling targets left lists left_lists tables → (left ≡ []) ⊎ (left_lists ≡ []) → tables ≡ fresh_tables targets lists
 filling_over targets left lists left_lists tables filling over =
-    let none = neither_left left left_lists filling.fill over in
-    record {
-      names = sym (append-nil (names_of_tables tables)) ∙ ap (λ l. names_of_tables tables ++ target_names l) (sym none.0) ∙ filling.names;
-      rows = sym (append-nil (plain_rows tables)) ∙ ap (λ l. plain_rows tables ++ l) (sym none.1) ∙ filling.rows;
-    }
+    sym (append-nil tables) ∙ ap (λ l. tables ++ l) (sym (none_fresh left left_lists over)) ∙ filling.made
 
 -- the rows of a table are in order
 pub rows_in_order : (source : Relation) → IsRelation source → AreInOrder source.schema (bare_rows source.rows)
@@ -287,6 +292,14 @@ pub record SplitsInto (catalog : List Declared) (spec : Spec) (rows : List (List
   pub fill : FillTargets (targets catalog spec) (operator catalog spec (rows ∷ []))
   pub names : target_names (targets catalog spec) ≡ targets_of spec
   pub apart : IsDistinct same_name (target_names (targets catalog spec))
+
+-- the fresh tables have the names and the rows that the transformation says
+pub names_made : (catalog : List Declared) (spec : Spec) (rows : List (List Value)) → SplitsInto catalog spec rows → names_of_tables (fresh_tables (targets catalog spec) (operator catalog spec (rows ∷ []))) ≡ targets_of spec
+names_made catalog spec rows splits = names_of_fresh (targets catalog spec) (operator catalog spec (rows ∷ [])) splits.fill ∙ splits.names
+
+pub rows_made : (catalog : List Declared) (spec : Spec) (rows : List (List Value)) → SplitsInto catalog spec rows
+    → plain_rows (fresh_tables (targets catalog spec) (operator catalog spec (rows ∷ []))) ≡ operator catalog spec (rows ∷ [])
+rows_made catalog spec rows splits = rows_of_fresh (targets catalog spec) (operator catalog spec (rows ∷ [])) splits.fill
 
 are_rows : (schema : Layout) (rows : List (List Value)) → AreInOrder schema rows → AreRowsOf schema rows
 are_rows schema rows order = record {
@@ -377,3 +390,8 @@ walked_whole rows cursor n walked walks start counts =
 pub one_source : (sources none : List (List (List Value))) (taken : List (List Value)) (seen rows : List Seen)
     → sources ≡ none ++ taken ∷ [] → none ≡ [] → taken ≡ bare_rows seen → seen ≡ rows → sources ≡ bare_rows rows ∷ []
 one_source sources none taken seen rows pushed empty bare all = pushed ∙ rw (empty, bare, all) refl
+
+-- what is made is seen as these tables are
+pub made_so : {A E : Type 0} (seen : List NamedTable → A) (made : Result (List NamedTable) E) (all : List NamedTable) (as_seen : A) → IfOk made (λ tables. tables ≡ all) → seen all ≡ as_seen → IfOk made (λ tables. seen tables ≡ as_seen)
+made_so seen (Ok tables) all as_seen is same = ap seen is ∙ same
+made_so seen (Err fault) all as_seen is same = tt

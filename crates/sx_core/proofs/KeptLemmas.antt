@@ -1,14 +1,11 @@
 -- Each event keeps what the fields keep: over plain variables.
-use Rattle.std.proofs.Common.{◌≡◌, ◌≤◌, ◌<◌, ◌+◌, ◌∷◌, ◌++◌, [], ℕ, suc, List, length, Option, Some, None, refl, sym, ◌∙◌, ap, subst, arith, true, IsTrue, inl, inr}
-use Rattle.std.specs.Option.{option_to_list}
+use Rattle.std.proofs.Common.{◌≡◌, ◌+◌, ◌∷◌, [], ℕ, List, length, Option, Some, None, refl, sym, ◌∙◌, ap, arith}
 use Rattle.sx_log.specs.declared.record.Rec.{Rec}
 use Rattle.sx_values.specs.declared.value.Value.{Value}
 use Rattle.sx_heap.specs.declared.tables.NamedTable.{NamedTable}
 use Rattle.sx_ops.specs.declared.spec.Spec.{Spec}
-use Rattle.sx_sync.specs.declared.Phase.{Phase}
-use Rattle.sx_sync.specs.declared.Phase.TheVariants.{Idle, Scanning, Chasing, Draining, Late, Done}
+use Rattle.sx_sync.specs.declared.Phase.TheVariants.{Idle, Scanning}
 use Rattle.sx_journal.specs.declared.entry.Entry.{Entry}
-use Rattle.sx_journal.specs.declared.entry.Event.{Event}
 use Rattle.sx_journal.specs.declared.entry.Event.TheVariants.{Start}
 use Rattle.sx_journal.specs.declared.entry.Reply.{Reply}
 use Rattle.sx_journal.specs.declared.entry.Reply.TheVariants.{Started as Marked}
@@ -19,17 +16,16 @@ use Rattle.sx_heap.specs.NamedTables.{AreNamedApart, table_named, with_table}
 use Rattle.sx_heap.specs.Walks.{rows_after}
 use Rattle.sx_ops.specs.Checks.{IsShaped, spec_fault}
 use Rattle.sx_core.proofs.WriteLemmas.{tables_meet-write}
-use Rattle.sx_model.specs.Scans.{seen, IsNextSide, next_side_after}
-use Rattle.sx_model.specs.Switches.{position}
-use Rattle.sx_model.specs.Effects.{Effect, Nothing, Reads, Begins, Writes, Undoes, Commits, Aborts, Starts, Sees, Fetches, Checks, Conflicts, Violates, Switches, Cancels, effect}
+use Rattle.sx_model.specs.Scans.{IsNextSide, next_side_after}
+use Rattle.sx_model.specs.Effects.{Nothing, Begins, Writes, Commits, Starts, effect}
 use Rattle.sx_model.specs.Openings.{Opening}
-use Rattle.sx_model.specs.Leaves.{Living, living, living_after, begun, begun_after, Started, started, started_by, phase, phase_after, txn_of}
-use Rattle.sx_model.specs.Logs.{log_of, effect_record, entry_record, event_record}
-use Rattle.sx_model.specs.Legal.{Legal, IsLegalEntry}
+use Rattle.sx_model.specs.Leaves.{living, begun, started, phase}
+use Rattle.sx_model.specs.Logs.{log_of, event_record}
+use Rattle.sx_model.specs.Legal.{IsLegalEntry}
 use Rattle.sx_values.specs.declared.catalog.Declared.{Declared}
 use Rattle.sx_log.specs.State.{state_at, after_body, stored}
-use Rattle.sx_log.specs.declared.record.Body.TheVariants.{Write, Undo, Commit, Abort, Mark, Check, Switch}
-use Rattle.sx_core.specs.Kept.{MeetsDeclared, IsKept, ClientsMeet, TablesMeet, TransformMeets, IsIdle, living_as, IsUnderWay, IsScanning, IsChasing, SawFirst}
+use Rattle.sx_log.specs.declared.record.Body.TheVariants.{Write, Commit, Mark, Switch}
+use Rattle.sx_core.specs.Kept.{IsKept, TablesMeet}
 
 -- an answer that changes nothing leaves the log
 pub log_of-quiet : (o : Opening) (past : List Entry) (e : Entry) → effect e.reply ≡ Nothing → log_of o (e ∷ past) ≡ log_of o past

@@ -1,32 +1,28 @@
 -- What a row or a key meets in the tables is what the journal says of it.
-use Rattle.std.proofs.Common.{◌≡◌, ◌+◌, ◌∷◌, [], ℕ, List, length, Option, Some, None, IsSome, refl, sym, ◌∙◌, ap, subst, arith}
+use Rattle.std.proofs.Common.{◌≡◌, ℕ, List, Option, Some, None, refl, sym, ◌∙◌, ap, subst}
 use Rattle.std.specs.Prelude.{option_map}
 use Rattle.sx_values.specs.declared.value.Value.{Value}
 use Rattle.sx_values.specs.declared.schema.BadRow.{BadRow}
 use Rattle.sx_values.specs.declared.catalog.Declared.{Declared}
-use Rattle.sx_values.specs.Layouts.{Layout, Admits, row_fault, key_fault, key_of}
+use Rattle.sx_values.specs.Layouts.{Layout, row_fault, key_fault, key_of}
 use Rattle.sx_values.specs.Catalogs.{declared_as, schema_of}
 use Rattle.sx_log.specs.declared.record.Rec.{Rec}
-use Rattle.sx_log.specs.declared.record.Body.TheVariants.{Write}
-use Rattle.sx_log.specs.State.{state_at, row_left}
+use Rattle.sx_log.specs.State.{state_at}
 use Rattle.sx_heap.specs.Relations.{Relation, row_at}
 use Rattle.sx_heap.specs.NamedTables.{table_named}
 use Rattle.sx_heap.specs.declared.tables.NamedTable.{NamedTable}
-use Rattle.sx_ops.specs.declared.spec.Spec.{Spec}
-use Rattle.sx_sync.specs.declared.Phase.{Phase}
 use Rattle.sx_journal.specs.declared.entry.Entry.{Entry}
 use Rattle.sx_journal.specs.declared.entry.Reply.{Reply}
 use Rattle.sx_journal.specs.declared.entry.Reply.TheVariants as reply
 use Rattle.sx_model.specs.Effects.{effect, Nothing}
-use Rattle.sx_model.specs.Openings.{Opening, key_in}
-use Rattle.sx_model.specs.Logs.{log_of, row_now, next_lsn}
-use Rattle.sx_model.specs.Replies.{insert_reply, update_reply, delete_reply, insert_answer, change_answer, unless_bad}
+use Rattle.sx_model.specs.Openings.{Opening}
+use Rattle.sx_model.specs.Logs.{log_of, row_now}
 use Rattle.sx_core.specs.declared.found.Found.{Found}
 use Rattle.sx_core.specs.declared.found.Found.TheVariants.{Refused, At}
 use Rattle.sx_core.specs.Meets.{RowMeets, KeyMeets, RowRefused, KeyRefused, MeetsRow, MeetsKey}
 use Rattle.sx_core.specs.Writes.{found_at, row_found, key_found}
-use Rattle.sx_core.specs.Kept.{IsKept, TablesMeet}
-use Rattle.sx_core.proofs.TableLemmas.{meets_named, meets_unnamed, MeetsNamed}
+use Rattle.sx_core.specs.Kept.{TablesMeet}
+use Rattle.sx_core.proofs.TableLemmas.{meets_named, meets_unnamed}
 
 effect-no_table : effect reply.NoTable ≡ Nothing
 unfolding effect

@@ -1,5 +1,5 @@
 -- What requests are answered, by what they meet: over plain variables.
-use Rattle.std.proofs.Common.{◌≡◌, ◌+◌, ◌∷◌, [], ℕ, List, length, Option, Some, None, IsSome, IsSomeAnd, refl, sym, ◌∙◌, ap, subst, arith}
+use Rattle.std.proofs.Common.{◌≡◌, ◌+◌, ◌∷◌, ℕ, List, length, Option, Some, None, IsSome, IsSomeAnd, refl, sym, ◌∙◌, ap, subst}
 use Rattle.std.specs.Prelude.{option_map}
 use Rattle.sx_values.specs.declared.value.Value.{Value}
 use Rattle.sx_values.specs.declared.catalog.Declared.{Declared}
@@ -7,8 +7,8 @@ use Rattle.sx_values.specs.Layouts.{Layout, Admits, key_of}
 use Rattle.sx_values.specs.Catalogs.{declared_as, schema_of}
 use Rattle.sx_log.specs.declared.record.Rec.{Rec}
 use Rattle.sx_log.specs.declared.record.Body.TheVariants.{Write}
-use Rattle.sx_log.specs.State.{state_at, row_left, stored}
-use Rattle.sx_heap.specs.Relations.{Relation, row_at, SetsRow}
+use Rattle.sx_log.specs.State.{state_at, stored}
+use Rattle.sx_heap.specs.Relations.{Relation, row_at}
 use Rattle.sx_heap.specs.NamedTables.{table_named, SetsRowIn}
 use Rattle.sx_heap.specs.declared.tables.NamedTable.{NamedTable}
 use Rattle.sx_journal.specs.declared.entry.Entry.{Entry}
@@ -17,12 +17,12 @@ use Rattle.sx_journal.specs.declared.entry.Request.TheVariants as request
 use Rattle.sx_journal.specs.declared.entry.Reply.{Reply}
 use Rattle.sx_journal.specs.declared.entry.Reply.TheVariants as reply
 use Rattle.sx_model.specs.Effects.{effect, Nothing}
-use Rattle.sx_model.specs.Openings.{Opening, key_in}
+use Rattle.sx_model.specs.Openings.{Opening}
 use Rattle.sx_model.specs.Leaves.{txn_of}
 use Rattle.sx_model.specs.Logs.{log_of, next_lsn, row_now, request_record}
-use Rattle.sx_model.specs.Replies.{client_reply, reply_in, reply_outside, reply_inside, insert_reply, update_reply, delete_reply}
+use Rattle.sx_model.specs.Replies.{client_reply, reply_outside, reply_inside, insert_reply, update_reply, delete_reply}
 use Rattle.sx_core.specs.Changes.{IsChange, FitsKey}
-use Rattle.sx_core.specs.Meets.{RowMeets, KeyMeets, RowRefused, KeyRefused}
+use Rattle.sx_core.specs.Meets.{RowMeets, KeyMeets}
 use Rattle.sx_core.specs.Writes.{TakesImage}
 use Rattle.sx_ops.specs.declared.spec.Spec.{Spec}
 use Rattle.sx_sync.specs.declared.Phase.{Phase}
@@ -30,7 +30,7 @@ use Rattle.sx_heap.specs.NamedTables.{AreNamedApart}
 use Rattle.sx_core.specs.Machines.{Machine}
 use Rattle.sx_core.specs.Kept.{TablesMeet, IsKept}
 use Rattle.sx_core.proofs.TurnLemmas.{Asks, client_entry, kept-wrote, next-of}
-use Rattle.sx_core.proofs.TableLemmas.{meets_named, MeetsNamed}
+use Rattle.sx_core.proofs.TableLemmas.{meets_named}
 
 pub quiet-no_txn : effect reply.NoTxn ≡ Nothing
 unfolding effect

@@ -1,5 +1,5 @@
 -- The propagator's turns, from what the machine was to what it is: over plain variables.
-use Rattle.std.proofs.Common.{◌≡◌, ◌≤◌, ◌<◌, ◌+◌, ◌-◌, ◌∷◌, [], ℕ, suc, List, length, map, Option, Some, None, Bool, true, false, IsTrue, refl, sym, ◌∙◌, ap, subst, arith, inl, inr, if◌then◌else◌}
+use Rattle.std.proofs.Common.{◌≡◌, ◌≤◌, ◌<◌, ◌+◌, ◌-◌, ◌∷◌, [], ℕ, List, length, map, Option, Some, None, Bool, true, false, refl, sym, ◌∙◌, ap, subst, arith, if◌then◌else◌}
 use Rattle.sx_values.specs.declared.value.Value.{Value}
 use Rattle.sx_log.specs.declared.record.Rec.{Rec}
 use Rattle.sx_log.specs.declared.record.Body.TheVariants.{Mark, Switch as Switching}
@@ -8,24 +8,24 @@ use Rattle.sx_heap.specs.NamedTables.{names_of_tables}
 use Rattle.sx_ops.specs.declared.spec.Spec.{Spec}
 use Rattle.sx_ops.specs.Checks.{IsShaped, spec_fault}
 use Rattle.sx_ops.specs.Operators.{sources_of, targets_of, operator}
+use Rattle.sx_ops.specs.Targets.{targets}
 use Rattle.sx_sync.specs.declared.Phase.{Phase}
 use Rattle.sx_sync.specs.declared.Phase.TheVariants.{Idle, Scanning, Chasing, Draining, Done}
 use Rattle.sx_sync.specs.declared.Strategy.{Strategy}
 use Rattle.sx_sync.specs.declared.Strategy.TheVariants.{Blocking}
 use Rattle.sx_journal.specs.declared.entry.Entry.{Entry}
-use Rattle.sx_journal.specs.declared.entry.Event.{Event}
 use Rattle.sx_journal.specs.declared.entry.Event.TheVariants.{Start, Scan, Switch}
 use Rattle.sx_journal.specs.declared.entry.Reply.{Reply}
 use Rattle.sx_journal.specs.declared.entry.Reply.TheVariants as reply
-use Rattle.sx_model.specs.Effects.{effect, Starts, Conflicts, Switches}
+use Rattle.sx_model.specs.Effects.{effect, Conflicts, Switches}
 use Rattle.sx_model.specs.Openings.{Opening}
-use Rattle.sx_model.specs.Leaves.{Living, living, Started, started, phase, is_blocking}
+use Rattle.sx_model.specs.Leaves.{living, Started, started, phase}
 use Rattle.sx_model.specs.Logs.{log_of, next_lsn}
 use Rattle.sx_model.specs.Replies.{start_reply}
 use Rattle.sx_model.specs.Scans.{IsScanTurn}
 use Rattle.sx_model.specs.Switches.{switch_reply, switch_unless, conflict, has_lock_on, position}
-use Rattle.sx_model.specs.Tables.{AreNewTables, AreRows, AreDeclaredRows}
-use Rattle.sx_model.specs.Legal.{Legal, IsLegalEntry, Allows, AllowsStart, AllowsScan, AllowsSwitch, ScanAnswer, HasRoom}
+use Rattle.sx_model.specs.Tables.{AreRows}
+use Rattle.sx_model.specs.Legal.{IsLegalEntry, Allows, ScanAnswer}
 use Rattle.std.specs.Prelude.{option_map}
 use Rattle.sx_values.specs.declared.catalog.Declared.{Declared}
 use Rattle.sx_values.specs.Layouts.{Layout}
@@ -36,12 +36,13 @@ use Rattle.sx_heap.specs.Relations.{Relation, IsRelation}
 use Rattle.sx_heap.specs.NamedTables.{table_named}
 use Rattle.sx_heap.specs.Walks.{WalksOn}
 use Rattle.sx_ops.specs.declared.spec.Spec.TheVariants.{Join, Split, Part, Union}
+use Rattle.sx_core.specs.FreshTables.{fresh_tables}
 use Rattle.sx_core.specs.Exchanges.{source_table, source_among}
 use Rattle.sx_core.proofs.ScanLemmas.{scan_turn, kept-scan}
-use Rattle.sx_core.proofs.TableLemmas.{has_source, HasSource, rows_meet, found_meets}
+use Rattle.sx_core.proofs.TableLemmas.{has_source, rows_meet, found_meets}
 use Rattle.sx_core.specs.Conflicts.{conflict_with, conflict_now}
-use Rattle.sx_core.specs.Machines.{Machine, Turns}
-use Rattle.sx_core.specs.Kept.{TablesMeet, IsKept, IsIdle, IsChasing, IsUnderWay, IsSwitchedTo, TransformMeets, living_as, plain_rows}
+use Rattle.sx_core.specs.Machines.{Machine}
+use Rattle.sx_core.specs.Kept.{TablesMeet, IsKept, living_as, plain_rows}
 use Rattle.sx_core.proofs.KeptLemmas.{kept-start, tables_meet-state, state-switch}
 use Rattle.sx_core.proofs.TurnLemmas.{from_view, has_room, next-kept}
 
@@ -219,10 +220,11 @@ pub kept-switched : (o : Opening) (past journal : List Entry) (log longer : List
     → Has o past log tables new_tables alive count now spec cursor m Chasing → conflict_now m.opening m.past ≡ None
     → longer ≡ record { txn = 0; body = Switching } ∷ log → lsn ≡ length longer
     → spec ≡ Some wanted → source_table spec tables ≡ Some source → IsRelation source
+    → fresh ≡ fresh_tables (targets o.catalog wanted) (operator o.catalog wanted (map (λ (s : Seen). s.row) source.rows ∷ []))
     → names_of_tables fresh ≡ targets_of wanted → plain_rows fresh ≡ operator o.catalog wanted (map (λ (s : Seen). s.row) source.rows ∷ [])
     → journal ≡ record { actor = 0; event = Switch; reply = reply.Switched lsn } ∷ past
     → IsKept o journal longer tables fresh alive count Done spec cursor
-kept-switched o past journal log longer tables new_tables fresh alive count now spec wanted cursor m source lsn has hinders grown counts given found relation names rows is =
+kept-switched o past journal log longer tables new_tables fresh alive count now spec wanted cursor m source lsn has hinders grown counts given found relation made names rows is =
     let chasing = phase_here o past log tables new_tables alive count now spec cursor m Chasing has in
     let few = from_view (λ _ past. length past < 40000) o past m has.view has.room in
     let kept = subst (λ p. IsKept o past log tables new_tables alive count p spec cursor) chasing has.kept in
@@ -253,6 +255,7 @@ kept-switched o past journal log longer tables new_tables fresh alive count now 
         began = s;
         is_started = rw told under.is_started;
         names = names ∙ ap targets_of (sym wants);
+        fresh = made ∙ ap (fresh_tables (targets o.catalog wanted)) (sym rows) ∙ ap (λ w. fresh_tables (targets o.catalog w) (plain_rows fresh)) (sym wants);
         rows = record {
           sources = map (λ (s : Seen). s.row) source.rows ∷ [];
           are = rw at.one (

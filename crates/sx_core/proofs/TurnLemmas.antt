@@ -1,5 +1,5 @@
 -- A client's turn, from what the machine was to what it is: over plain variables.
-use Rattle.std.proofs.Common.{◌≡◌, ◌≤◌, ◌<◌, ◌+◌, ◌∷◌, ◌++◌, [], ℕ, suc, List, length, Option, Some, None, refl, sym, ◌∙◌, ap, subst, arith, true, IsTrue, inl, inr, ◌-◌, drop}
+use Rattle.std.proofs.Common.{◌≡◌, ◌≤◌, ◌<◌, ◌+◌, ◌∷◌, ℕ, suc, List, length, Option, Some, None, refl, sym, ◌∙◌, ap, subst, arith, inl, ◌-◌, drop}
 use Rattle.sx_log.specs.declared.record.Rec.{Rec}
 use Rattle.sx_log.specs.declared.record.Body.TheVariants.{Commit, Write}
 use Rattle.sx_log.specs.State.{stored}
@@ -21,10 +21,10 @@ use Rattle.sx_journal.specs.declared.entry.Reply.TheVariants as reply
 use Rattle.sx_model.specs.Effects.{effect, Nothing, Begins, Commits, Writes}
 use Rattle.sx_model.specs.Openings.{Opening}
 use Rattle.sx_model.specs.Leaves.{living, phase, txn_of, begun}
-use Rattle.sx_model.specs.Logs.{log_of, next_lsn, request_record, event_record}
-use Rattle.sx_model.specs.Replies.{client_reply, reply_outside, reply_inside, reply_in}
+use Rattle.sx_model.specs.Logs.{next_lsn, request_record, event_record}
+use Rattle.sx_model.specs.Replies.{client_reply, reply_outside, reply_inside}
 use Rattle.sx_model.specs.Scans.{oldest}
-use Rattle.sx_model.specs.Legal.{Legal, IsLegalEntry, Allows, AllowsClient, HasRoom}
+use Rattle.sx_model.specs.Legal.{Legal, IsLegalEntry, Allows, HasRoom}
 use Rattle.sx_core.specs.Machines.{Machine, Turns}
 use Rattle.sx_core.specs.Kept.{IsKept, living_as}
 use Rattle.sx_core.proofs.KeptLemmas.{kept-quiet, kept-begin, kept-commit, kept-write}

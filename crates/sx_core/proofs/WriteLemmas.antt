@@ -1,5 +1,5 @@
 -- A write changes one row of one table, in the tables as in the state that the log leaves.
-use Rattle.std.proofs.Common.{◌≡◌, ◌+◌, ◌∷◌, ◌&&◌, [], ℕ, List, length, map, Option, Some, None, Bool, true, false, cond, refl, sym, ◌∙◌, ap, subst, arith}
+use Rattle.std.proofs.Common.{◌≡◌, ◌+◌, ◌∷◌, ◌&&◌, [], ℕ, List, length, Option, Some, Bool, true, false, cond, refl, sym, ◌∙◌, ap, subst}
 use Rattle.std.specs.List.{AllByRecursion, IsDistinct}
 use Rattle.std.proofs.lemmas.Bool.{false≢true}
 use Rattle.sx_values.specs.declared.value.Value.{Value}
@@ -9,11 +9,11 @@ use Rattle.sx_values.specs.Values.{values_eq}
 use Rattle.sx_values.proofs.KeyLaws.{same_name_tells, same_name-refl}
 use Rattle.sx_log.specs.declared.record.Rec.{Rec}
 use Rattle.sx_log.specs.declared.record.Body.TheVariants.{Write}
-use Rattle.sx_log.specs.State.{state_at, after_body, stored, is_place}
+use Rattle.sx_log.specs.State.{state_at, after_body, stored}
 use Rattle.sx_heap.specs.declared.tables.NamedTable.{NamedTable}
-use Rattle.sx_heap.specs.Relations.{Relation, row_at, same_key, SetsRow}
+use Rattle.sx_heap.specs.Relations.{Relation, row_at, SetsRow}
 use Rattle.sx_heap.specs.NamedTables.{AreNamedApart, table_named, with_table, names_of_tables}
-use Rattle.sx_core.specs.Kept.{MeetsDeclared, TablesMeet}
+use Rattle.sx_core.specs.Kept.{TablesMeet}
 
 -- a record of a write
 abbrev write : ℕ → List ℕ → List Value → Option (List Value) → Option (List Value) → Rec

@@ -14,6 +14,8 @@ use Rattle.sx_heap.specs.Walks.{WalksOn}
 use Rattle.sx_heap.specs.declared.walk.Walked.{Walked}
 use Rattle.sx_ops.specs.Checks.{IsShaped, spec_fault}
 use Rattle.sx_ops.specs.Operators.{targets_of, operator}
+use Rattle.sx_ops.specs.Targets.{targets}
+use Rattle.sx_core.specs.FreshTables.{fresh_tables}
 use Rattle.sx_core.specs.Kept.{plain_rows}
 use Rattle.sx_heap.specs.NamedTables.{table_named, names_of_tables}
 use Rattle.sx_ops.specs.declared.spec.Spec.{Spec}
@@ -81,5 +83,6 @@ pub record IsExchange (catalog : List Declared) (given : Option Spec) (tables fr
   pub source : Relation
   pub found : source_table given tables ≡ Some source
   pub relation : IsRelation source
+  pub made : fresh ≡ fresh_tables (targets catalog wanted) (operator catalog wanted (bare_rows source.rows ∷ []))
   pub names : names_of_tables fresh ≡ targets_of wanted
   pub rows : plain_rows fresh ≡ operator catalog wanted (bare_rows source.rows ∷ [])

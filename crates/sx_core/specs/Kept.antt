@@ -1,5 +1,5 @@
 -- What the machine's fields keep of its journal.
-use Rattle.std.specs.Prelude.{◌≡◌, ◌≤◌, ◌+◌, ⊤, ℕ, List, [], ◌∷◌, length, map, take, drop, Option, Some, None, option_map}
+use Rattle.std.specs.Prelude.{◌≡◌, ◌≤◌, ⊤, ℕ, List, [], ◌∷◌, length, map, take, drop, Option, Some, None}
 use Rattle.sx_values.specs.declared.value.Value.{Value}
 use Rattle.sx_values.specs.declared.catalog.Declared.{Declared}
 use Rattle.sx_log.specs.declared.record.Rec.{Rec}
@@ -12,6 +12,7 @@ use Rattle.sx_heap.specs.Walks.{rows_after}
 use Rattle.sx_ops.specs.declared.spec.Spec.{Spec}
 use Rattle.sx_ops.specs.Checks.{IsShaped, spec_fault}
 use Rattle.sx_ops.specs.Operators.{sources_of, targets_of}
+use Rattle.sx_ops.specs.Targets.{targets}
 use Rattle.sx_sync.specs.declared.Phase.{Phase}
 use Rattle.sx_sync.specs.declared.Phase.TheVariants.{Idle, Scanning, Chasing, Draining, Late, Done}
 use Rattle.sx_sync.specs.declared.Strategy.TheVariants.{Blocking}
@@ -23,6 +24,7 @@ use Rattle.sx_model.specs.Scans.{seen, IsNextSide}
 use Rattle.sx_model.specs.Switches.{position}
 use Rattle.sx_model.specs.Tables.{AreNewTables}
 use Rattle.sx_model.specs.Legal.{Legal}
+use Rattle.sx_core.specs.FreshTables.{fresh_tables}
 
 -- a table has the declared name and schema, and at each key what the log leaves there
 pub record MeetsDeclared (log : List Rec) (declared : Declared) (table : NamedTable) : Type 0 where
@@ -80,11 +82,12 @@ pub record IsChasing (o : Opening) (past : List Entry) (log : List Rec) (spec : 
 abbrev pub plain_rows : List NamedTable → List (List (List Value))
 plain_rows tables = map (λ (t : NamedTable). map (λ (s : Seen). s.row) t.table.rows) tables
 
--- a transformation that is switched
+-- a transformation that is switched: its new tables have the schemas and the rows that it says, and no record put the rows there
 pub record IsSwitchedTo (o : Opening) (past : List Entry) (new_tables : List NamedTable) : Type 0 where
   pub began : Started
   pub is_started : started past ≡ Some began
   pub names : names_of_tables new_tables ≡ targets_of began.spec
+  pub fresh : new_tables ≡ fresh_tables (targets o.catalog began.spec) (plain_rows new_tables)
   pub rows : AreNewTables o past began (plain_rows new_tables)
 
 -- no transformation yet

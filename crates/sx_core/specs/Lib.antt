@@ -2,6 +2,7 @@ pub mod Answers
 pub mod Changes
 pub mod Conflicts
 pub mod Exchanges
+pub mod FreshTables
 pub mod Kept
 pub mod Loading
 pub mod Machines

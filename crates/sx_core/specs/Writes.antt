@@ -2,7 +2,7 @@
 use Rattle.std.specs.Prelude.{◌≡◌, ℕ, List, Option, Some, None, IsSome, option_map}
 use Rattle.sx_values.specs.declared.value.Value.{Value}
 use Rattle.sx_values.specs.declared.schema.BadRow.{BadRow}
-use Rattle.sx_values.specs.Layouts.{Layout, Admits, row_fault, key_fault, key_of}
+use Rattle.sx_values.specs.Layouts.{Admits, row_fault, key_fault, key_of}
 use Rattle.sx_heap.specs.Relations.{Relation, row_at}
 use Rattle.sx_journal.specs.declared.entry.Reply.TheVariants.{NoTable, BadRow as Bad}
 use Rattle.sx_core.specs.declared.found.Found.{Found}

@@ -7,8 +7,10 @@ ghost use Rattle.sx_heap.specs.Relations.{IsRelation};
 ghost use Rattle.sx_heap.specs.NamedTables.{names_of_tables};
 ghost use Rattle.sx_ops.specs.Checks.{IsShaped, spec_fault};
 ghost use Rattle.sx_ops.specs.Operators.{targets_of, operator};
+ghost use Rattle.sx_ops.specs.Targets.{targets};
 ghost use Rattle.sx_model.specs.Effects.{effect};
 ghost use Rattle.sx_model.specs.Switches.{begins, takes_lock, request_names, event_names, has_lock_on};
+ghost use Rattle.sx_core.specs.FreshTables.{fresh_table, fresh_tables};
 ghost use Rattle.sx_core.specs.Kept.{plain_rows};
 ghost use Rattle.sx_core.specs.Exchanges.{source_table, source_schema, bare_rows, target_names, AreInOrder, FillTargets};
 
@@ -42,6 +44,8 @@ pub(crate) fn new_tables(
     requires fits { spec_fault catalog.now spec.now ≡ None }
     requires declared { source_schema catalog.now spec.now ≡ Some source.now.schema }
     ensures relation { IsRelation source.now }
+    ensures made { IfOk result (λ tables. tables ≡ fresh_tables (targets catalog.now spec.now)
+        (operator catalog.now spec.now (bare_rows source.now.rows ∷ []))) }
     ensures names { IfOk result (λ tables. names_of_tables tables ≡ targets_of spec.now) }
     ensures rows { IfOk result (λ tables. plain_rows tables
         ≡ operator catalog.now spec.now (bare_rows source.now.rows ∷ [])) }
@@ -69,8 +73,7 @@ fn rows_of(alloc: Global, seens: Seens) -> Result<Rows, AllocError>
 fn filled_tables(alloc: Global, targets: Targets, lists: RowLists) -> Result<Tables, AllocError>
     requires fill { FillTargets targets lists }
     requires apart { IsDistinct same_name (target_names targets) }
-    ensures names { IfOk result (λ tables. names_of_tables tables ≡ target_names targets) }
-    ensures rows { IfOk result (λ tables. plain_rows tables ≡ lists) }
+    ensures { IfOk result (λ tables. tables ≡ fresh_tables targets lists) }
 {
     let mut tables = Tables::new(alloc);
     for (target, rows) in targets.into_vec().into_iter().zip(lists.into_vec()) {
@@ -83,7 +86,7 @@ fn filled_tables(alloc: Global, targets: Targets, lists: RowLists) -> Result<Tab
 // A table with these rows.
 fn filled(alloc: Global, schema: Schema, rows: Rows) -> Result<Table, AllocError>
     requires { AreInOrder schema rows }
-    ensures { IfOk result (λ table. bare_rows table.rows ≡ rows) }
+    ensures { IfOk result (λ table. table ≡ fresh_table schema rows) }
 {
     let mut table = Table::new(alloc, schema);
     for row in rows.into_vec() {

@@ -13,8 +13,8 @@ filled-requires c =
 pub push-requires : goal.push-requires
 push-requires c =
     let l = c.loop-target in
-    filling_free c.args.targets (into_iter_items (zip_first l.target-iterator)) c.args.lists (into_iter_items (zip_second l.target-iterator)) l.tables c.in-Some.target (into_iter_items (zip_first c.next.new.self))
-    c.requires.apart l.invariant.filling c.in-Some.ensures.steps.0.0
+    filling_free c.args.targets (into_iter_items (zip_first l.target-iterator)) c.args.lists (into_iter_items (zip_second l.target-iterator)) l.tables c.in-Some.target (into_iter_items (zip_first c.next.new.self)) c.in-Some.rows (into_iter_items (zip_second c.next.new.self))
+    c.requires.fill c.requires.apart l.invariant.filling c.in-Some.ensures.steps.0.0 c.in-Some.ensures.steps.1.0
 
 pub loop-target-preserved : goal.loop-target-preserved
 loop-target-preserved c =
@@ -46,5 +46,4 @@ returns c =
       | inl ended ↦ inl (nothing_left targets (sym l.invariant.targets_left ∙ ended.1.0))
       | inr ended ↦ inr (nothing_left lists (sym l.invariant.lists_left ∙ ended.1.0))
     ] in
-    let filled = filling_over c.args.targets targets c.args.lists lists l.tables l.invariant.filling over in
-    record { names = filled.names; rows = filled.rows }
+    filling_over c.args.targets targets c.args.lists lists l.tables l.invariant.filling over

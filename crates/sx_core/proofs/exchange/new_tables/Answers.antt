@@ -4,10 +4,12 @@ use Rattle.sx_values.specs.Names.{same_name}
 use Rattle.sx_heap.specs.declared.tables.NamedTable.{NamedTable}
 use Rattle.sx_heap.specs.NamedTables.{names_of_tables}
 use Rattle.sx_ops.specs.declared.spec.Target.{Target}
-use Rattle.sx_ops.specs.Operators.{sources_of, operator, AreSourceRows}
+use Rattle.sx_ops.specs.Operators.{sources_of, targets_of, operator, AreSourceRows}
+use Rattle.sx_ops.specs.Targets.{targets}
+use Rattle.sx_core.specs.FreshTables.{fresh_tables}
 use Rattle.sx_core.specs.Kept.{plain_rows}
 use Rattle.sx_core.specs.Exchanges.{bare_rows, target_names, FillTargets}
-use Rattle.sx_core.proofs.ExchangeLemmas.{splits_into, walked_whole, one_source}
+use Rattle.sx_core.proofs.ExchangeLemmas.{splits_into, walked_whole, one_source, names_made, rows_made, made_so}
 use Rattle.sx_core.proofs.exchange.new_tables.Goals as goal
 
 pub transform-requires-clause-rows : goal.transform-requires-clause-rows
@@ -36,8 +38,15 @@ returns c =
     let whole = walked_whole source.rows c.start.result c.len.result c.in_ok-walked.walked c.in_ok-walked.ensures.walked c.start.ensures c.len.ensures.len in
     let one = one_source c.push.new.self c.new-sources.result c.in_ok-rows_of.field-0 c.in_ok-walked.walked.seen source.rows c.in_ok-push.ensures.ok c.new-sources.ensures c.in_ok-rows_of.ensures whole in
     let splits = splits_into c.args.catalog.now c.args.spec.now source c.len.ensures.relation c.requires.shaped c.requires.fits c.requires.declared in
+    let catalog = c.args.catalog.now in
+    let spec = c.args.spec.now in
+    let rows = bare_rows source.rows in
+    let lists = c.in_ok-lists.ensures ∙ ap (operator catalog spec) one in
+    let all = ap (λ l. fresh_tables l c.in_ok-lists.lists) c.in_ok-targets.ensures ∙ ap (fresh_tables (targets catalog spec)) lists in
+    let made = subst (λ all. IfOk c.filled_tables.result (λ (tables : List NamedTable). tables ≡ all)) all c.filled_tables.ensures in
     record {
       relation = c.len.ensures.relation;
-      names = subst (λ names. IfOk c.filled_tables.result (λ (tables : List NamedTable). names_of_tables tables ≡ names)) (ap target_names c.in_ok-targets.ensures ∙ splits.names) c.filled_tables.ensures.names;
-      rows = subst (λ lists. IfOk c.filled_tables.result (λ (tables : List NamedTable). plain_rows tables ≡ lists)) (c.in_ok-lists.ensures ∙ ap (operator c.args.catalog.now c.args.spec.now) one) c.filled_tables.ensures.rows;
+      made = made;
+      names = made_so names_of_tables c.filled_tables.result (fresh_tables (targets catalog spec) (operator catalog spec (rows ∷ []))) (targets_of spec) made (names_made catalog spec rows splits);
+      rows = made_so plain_rows c.filled_tables.result (fresh_tables (targets catalog spec) (operator catalog spec (rows ∷ []))) (operator catalog spec (rows ∷ [])) made (rows_made catalog spec rows splits);
     }

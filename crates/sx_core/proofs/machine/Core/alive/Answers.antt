@@ -1,6 +1,5 @@
 use Rattle.std.proofs.Common.{ap}
 use Rattle.sx_core.specs.Machines.{Machine}
-use Rattle.sx_model.specs.Leaves.{txn_of}
 use Rattle.sx_core.proofs.TurnLemmas.{alive_is}
 use Rattle.sx_core.proofs.machine.Core.alive.Goals as goal
 

@@ -1,4 +1,4 @@
-use Rattle.std.proofs.Common.{◌≡◌, ◌∷◌, ◌+◌, ◌∙◌, ap, sym, subst, refl}
+use Rattle.std.proofs.Common.{◌∷◌, ◌+◌, ◌∙◌, ap, sym, refl}
 use Rattle.sx_journal.specs.declared.entry.Event.TheVariants.{Client}
 use Rattle.sx_journal.specs.declared.entry.Request.TheVariants.{Begin}
 use Rattle.sx_journal.specs.declared.entry.Reply.TheVariants.{Begun}

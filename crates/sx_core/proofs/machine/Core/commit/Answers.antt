@@ -1,4 +1,4 @@
-use Rattle.std.proofs.Common.{◌≡◌, ◌≤◌, ◌∷◌, ◌+◌, ◌∙◌, ap, sym, refl, length, arith}
+use Rattle.std.proofs.Common.{◌∷◌, ◌∙◌, ap, refl, length, arith}
 use Rattle.sx_journal.specs.declared.entry.Event.TheVariants.{Client}
 use Rattle.sx_journal.specs.declared.entry.Request.TheVariants as request
 use Rattle.sx_journal.specs.declared.entry.Reply.TheVariants.{Committed}

@@ -1,4 +1,4 @@
-use Rattle.std.proofs.Common.{◌≡◌, ◌∷◌, ◌∙◌, ap, refl}
+use Rattle.std.proofs.Common.{◌∷◌, ◌∙◌, ap, refl}
 use Rattle.sx_sync.specs.declared.Phase.TheVariants.{Done}
 use Rattle.sx_log.specs.declared.record.Rec.{Rec}
 use Rattle.sx_log.specs.declared.record.Body.TheVariants as body
@@ -27,7 +27,7 @@ invariant_of-self-2 c =
     grown_kept i.catalog i.loads c.append-2.new.self.newest i.log.newest c.append.new.self.newest r i.tables c.in_ok-fresh.fresh i.living i.begun Done i.spec i.cursor c.self.invariant.0 grown
     (kept-switched (opened i.catalog i.loads i.log.newest) i.journal.newest c.append-2.new.self.newest i.log.newest c.append.new.self.newest i.tables i.new_tables c.in_ok-fresh.fresh i.living i.begun i.phase i.spec made.wanted i.cursor c.args.self.now made.source c.len-lsn.result
     (record { kept = c.self.invariant.1; view = c.self.view_is; at = c.requires.chasing; room = c.requires.room })
-    c.requires.free grown c.len-lsn.ensures made.is made.found made.relation made.names made.rows longer)
+    c.requires.free grown c.len-lsn.ensures made.is made.found made.relation made.made made.names made.rows longer)
 
 pub returns : goal.returns
 returns c =
@@ -41,5 +41,5 @@ returns c =
     c.self.view_is (opened-more i.catalog i.loads i.log.newest c.append.new.self.newest r c.self.invariant.0 grown) longer refl
     (kept-switched (opened i.catalog i.loads i.log.newest) i.journal.newest c.append-2.new.self.newest i.log.newest c.append.new.self.newest i.tables i.new_tables c.in_ok-fresh.fresh i.living i.begun i.phase i.spec made.wanted i.cursor c.args.self.now made.source c.len-lsn.result
     (record { kept = c.self.invariant.1; view = c.self.view_is; at = c.requires.chasing; room = c.requires.room })
-    c.requires.free grown c.len-lsn.ensures made.is made.found made.relation made.names made.rows longer) in
+    c.requires.free grown c.len-lsn.ensures made.is made.found made.relation made.made made.names made.rows longer) in
     (switch_right _ _ (Switched c.len-lsn.result) turn, turn)

@@ -1,5 +1,4 @@
-use Rattle.std.proofs.Common.{◌≡◌, ◌∷◌, ◌∙◌, ap, refl}
-use Rattle.sx_journal.specs.declared.entry.Entry.{Entry}
+use Rattle.std.proofs.Common.{◌∷◌, ◌∙◌, ap, refl}
 use Rattle.sx_journal.specs.declared.entry.Event.TheVariants.{Client}
 use Rattle.sx_core.proofs.TurnLemmas.{client_entry, kept-note, turned}
 use Rattle.sx_core.proofs.machine.Core.note.Goals as goal

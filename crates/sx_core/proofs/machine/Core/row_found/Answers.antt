@@ -1,4 +1,4 @@
-use Rattle.std.proofs.Common.{◌≡◌, subst}
+use Rattle.std.proofs.Common.{subst}
 use Rattle.sx_core.specs.Machines.{Machine}
 use Rattle.sx_core.specs.Meets.{MeetsRow}
 use Rattle.sx_core.proofs.MeetLemmas.{meets_row}

@@ -1,10 +1,10 @@
-use Rattle.std.proofs.Common.{◌≡◌, ◌∷◌, ◌∙◌, map, ap, refl}
+use Rattle.std.proofs.Common.{◌∷◌, ◌∙◌, map, ap, refl}
 use Rattle.sx_heap.specs.declared.seen.Seen.{Seen}
 use Rattle.sx_journal.specs.declared.entry.Entry.{Entry}
 use Rattle.sx_journal.specs.declared.entry.Event.TheVariants.{Scan}
 use Rattle.sx_journal.specs.declared.entry.Reply.TheVariants.{Scanned}
-use Rattle.sx_core.specs.Exchanges.{source_table, WalksIn}
-use Rattle.sx_core.proofs.TurnLemmas.{turned, opened}
+use Rattle.sx_core.specs.Exchanges.{WalksIn}
+use Rattle.sx_core.proofs.TurnLemmas.{turned}
 use Rattle.sx_core.proofs.TransformLemmas.{kept-scanned}
 use Rattle.sx_core.proofs.EventLemmas.{scan_right, scans_table, there_is, of_the_found}
 use Rattle.sx_core.proofs.machine.Core.scan.Goals as goal

@@ -1,4 +1,4 @@
-use Rattle.std.proofs.Common.{◌≡◌, ◌∷◌, ◌∙◌, List, Option, Some, None, ap, sym, subst, refl}
+use Rattle.std.proofs.Common.{◌∷◌, ◌∙◌, List, Option, Some, None, ap, sym, subst, refl}
 use Rattle.sx_values.specs.declared.value.Value.{Value}
 use Rattle.sx_ops.specs.declared.spec.Spec.{Spec}
 use Rattle.sx_sync.specs.declared.Phase.TheVariants.{Scanning}

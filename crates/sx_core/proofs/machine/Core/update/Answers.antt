@@ -1,4 +1,4 @@
-use Rattle.std.proofs.Common.{◌≡◌, ℕ, List, Option, Some, None, sym, subst}
+use Rattle.std.proofs.Common.{ℕ, List, Option, Some, sym, subst}
 use Rattle.sx_values.specs.declared.value.Value.{Value}
 use Rattle.sx_journal.specs.declared.entry.Request.TheVariants.{Update}
 use Rattle.sx_core.specs.declared.found.Found.{Found}

@@ -1,5 +1,4 @@
-use Rattle.std.proofs.Common.{◌≡◌, ◌≤◌, ◌+◌, ◌∷◌, ◌∙◌, List, Option, Some, ap, sym, subst, refl, length, arith}
-use Rattle.sx_values.specs.declared.value.Value.{Value}
+use Rattle.std.proofs.Common.{◌∷◌, ◌∙◌, Some, ap, sym, subst, refl}
 use Rattle.sx_journal.specs.declared.entry.Event.TheVariants.{Client}
 use Rattle.sx_journal.specs.declared.entry.Reply.TheVariants.{Done}
 use Rattle.sx_log.specs.declared.record.Rec.{Rec}

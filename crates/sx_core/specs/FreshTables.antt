@@ -1,0 +1,22 @@
+-- Tables whose rows no record put there.
+use Rattle.std.specs.Prelude.{◌∷◌, List, [], map}
+use Rattle.sx_values.specs.declared.value.Value.{Value}
+use Rattle.sx_values.specs.Layouts.{Layout, key_of}
+use Rattle.sx_heap.specs.declared.seen.Seen.{Seen}
+use Rattle.sx_heap.specs.declared.tables.NamedTable.{NamedTable}
+use Rattle.sx_heap.specs.Relations.{Relation}
+use Rattle.sx_ops.specs.declared.spec.Target.{Target}
+
+-- a row with its key, and with LSN 0
+abbrev pub unstamped : Layout → List Value → Seen
+unstamped schema row = record { key = key_of schema row; row = row; lsn = 0 }
+
+-- a table of these rows
+abbrev pub fresh_table : Layout → List (List Value) → Relation
+fresh_table schema rows = record { schema = schema; rows = map (unstamped schema) rows }
+
+-- a table for each of these, in order, with the rows of its list
+abbrev pub fresh_tables : List Target → List (List (List Value)) → List NamedTable
+fresh_tables [] lists = []
+fresh_tables (target ∷ targets) [] = []
+fresh_tables (target ∷ targets) (rows ∷ lists) = record { name = target.name; table = fresh_table target.schema rows } ∷ fresh_tables targets lists
