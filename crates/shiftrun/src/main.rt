@@ -35,3 +35,6 @@ fn words(rt: &HostRuntime) -> io::Result<Vec<Word>> {
     }
     Ok(words)
 }
+
+#[cfg(test)]
+mod tests;
