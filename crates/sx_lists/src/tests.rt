@@ -1,5 +1,5 @@
 // Examples of what lists answer, and of each generic call at a concrete type.
-use crate::{Copied, List, Reserved, Same, all_same, copies_of};
+use crate::{Copied, List, Reserved, Same, all_same, bytes_of, copies_of};
 use std::alloc::{AllocError, Global};
 use std::cmp::Ordering;
 use std::test::Fail;
@@ -45,6 +45,13 @@ fn copies_are_equal(rt: HostRuntime) -> Result<(), Fail> {
     assert_eq!(rt; bytes.as_slice(), b"abc".as_slice());
     assert_eq!(rt; Some(7_u64).copy(alloc)?, Some(7));
     assert_eq!(rt; None::<u64>.copy(alloc)?, None);
+    Ok(())
+}
+
+#[test]
+fn bytes_are_copied(rt: HostRuntime) -> Result<(), Fail> {
+    let bytes = bytes_of(rt.alloc(), b"abc")?;
+    assert_eq!(rt; bytes.as_slice(), b"abc".as_slice());
     Ok(())
 }
 

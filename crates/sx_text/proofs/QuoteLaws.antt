@@ -1,10 +1,10 @@
 -- Fields without quotes, as csv's writer writes them.
-use Rattle.std.proofs.Common.{◌≡◌, ◌<◌, ◌+◌, ◌==◌, ◌||◌, ◌++◌, ℕ, suc, drop, get_or, arith, Bool, true, false, List, [], ◌∷◌, length, map, refl, sym, ap, ◌∙◌, if◌then◌else◌}
+use Rattle.std.proofs.Common.{◌≡◌, ◌<◌, ◌+◌, ◌==◌, ◌||◌, ◌++◌, ℕ, suc, drop, get_or, arith, Bool, true, false, List, [], ◌∷◌, length, refl, sym, ap, ◌∙◌, if◌then◌else◌}
 use Rattle.std.proofs.Math.Seq.{drop-cons}
 use Rattle.std.proofs.lemmas.List.{append-nil, append_assoc}
-use Rattle.csv.specs.Writing.{default_writer, needs_byte, needs_quotes, field_text, fields_text, is_blank, quoted, row_body}
+use Rattle.csv.specs.Writing.{default_writer, needs_byte, field_text, fields_text, is_blank, quoted, row_body}
 use Rattle.sx_values.specs.declared.value.Value.{Value}
-use Rattle.sx_text.specs.Records.{IsPlain, field_of, record_of, record_text}
+use Rattle.sx_text.specs.Records.{IsPlain, record_of}
 
 or_none : (a b c d : Bool) → (a || b || c || d) ≡ (a || b || (c || d) || false || false)
 or_none true b c d = refl

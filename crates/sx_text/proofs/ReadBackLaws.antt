@@ -1,14 +1,14 @@
 -- Values that are shown by a record are read from it, and the record is printable.
-use Rattle.std.proofs.Common.{◌≡◌, ◌≤◌, ◌<◌, ◌+◌, ◌==◌, ◌&&◌, ◌||◌, ◌++◌, ◌^◌, ℕ, zero, suc, Bool, true, false, not, cond, nat_lt, nat_le, List, [], ◌∷◌, length, map, option_map, Option, Some, None, Result, Ok, Err, refl, sym, ap, ◌∙◌, subst, arith, inl, inr, eq-eqb, eqb-true, if◌then◌else◌}
+use Rattle.std.proofs.Common.{◌≡◌, ◌<◌, ◌+◌, ◌==◌, ◌&&◌, ◌++◌, ◌^◌, ℕ, suc, Bool, true, false, not, nat_lt, nat_le, List, [], ◌∷◌, length, map, option_map, Option, Some, None, Result, Ok, Err, refl, sym, ap, ◌∙◌, subst, arith, inl, inr, eq-eqb, eqb-true, if◌then◌else◌}
 use Rattle.std.specs.Prelude.{ℤ, pos, negsuc}
-use Rattle.std.specs.List.{list_all, list_any, filter_map, cons_option}
+use Rattle.std.specs.List.{list_all, list_any}
 use Rattle.std.specs.Fmt.{decimal, signed_decimal}
 use Rattle.std.specs.Cmp.Lexicographic.{pointwise}
 use Rattle.std.proofs.lemmas.Bool.Decides.{nat_tests}
 use Rattle.std.proofs.lemmas.Bool.{cases_Bool}
-use Rattle.std.proofs.lemmas.List.{append_assoc, length-map}
+use Rattle.std.proofs.lemmas.List.{length-map}
 use Rattle.std.proofs.lemmas.List.Folds.{list_all-append}
-use Rattle.csv.specs.Writing.{default_writer, escaped, field_text, fields_text, is_blank, needs_byte, quoted, row_body}
+use Rattle.csv.specs.Writing.{default_writer, escaped, field_text, fields_text, is_blank, needs_byte, row_body}
 use Rattle.sx_lists.specs.Answers.{or_later}
 use Rattle.sx_values.specs.Texts.{is_digit, is_printable, is_text, null_word}
 use Rattle.sx_values.specs.Layouts.{Layout, IsLayout, Admits, AdmitsKey, first_fault, all_null_fault, is_int, key_columns, key_of, value_fault, values_fault}
@@ -17,7 +17,6 @@ use Rattle.sx_values.specs.declared.value.Value.TheVariants.{Null, Int, Text}
 use Rattle.sx_values.specs.declared.schema.Kind.{Kind}
 use Rattle.sx_values.specs.declared.schema.Kind.TheVariants as kind
 use Rattle.sx_values.specs.declared.schema.Column.{Column}
-use Rattle.sx_values.specs.declared.schema.BadRow.{BadRow}
 use Rattle.sx_values.specs.declared.schema.BadRow.TheVariants as bad
 use Rattle.sx_values.proofs.SchemaLaws.{length-key_columns}
 use Rattle.sx_text.specs.Numbers.{int_of}

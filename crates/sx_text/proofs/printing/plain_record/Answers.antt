@@ -1,7 +1,7 @@
-use Rattle.std.proofs.Common.{◌≡◌, ◌++◌, ◌∷◌, ◌&&◌, ◌+◌, true, map, drop, refl, sym, ap, ◌∙◌}
+use Rattle.std.proofs.Common.{◌++◌, ◌∷◌, ◌&&◌, ◌+◌, map, drop, sym, ap, ◌∙◌}
 use Rattle.std.proofs.Math.ListN.{drop_of_length-le}
 use Rattle.csv.specs.Writing.{default_writer, fields_text, row_body}
-use Rattle.sx_text.specs.Records.{are_values, field_of, is_value}
+use Rattle.sx_text.specs.Records.{are_values, field_of}
 use Rattle.sx_text.proofs.QuoteLaws.{first_field, one_field, shows_some, whole_record, values_at}
 use Rattle.sx_text.proofs.printing.plain_record.Goals as goal
 

@@ -1,4 +1,4 @@
-use Rattle.std.proofs.Common.{◌∷◌, [], nat_eq, refl, rules}
+use Rattle.std.proofs.Common.{◌∷◌, [], nat_eq}
 use Rattle.std.specs.List.{IsDistinct}
 use Rattle.sx_text.proofs.tests.notes.Goals as goal
 
