@@ -36,11 +36,11 @@ line_ends words before after kept text status result whole output none (inr p) =
 })
 
 -- the words are no command
-pub words_end : (words : List (List ℕ)) (before after : Outside) (kept : Option Machine) (result : Status) → (IsStep words → ⊥) → kept ≡ None
+pub words_end : (words : List (List ℕ)) (before after : Outside) (kept : Option Machine) (result : Status) → (IsStep words → ⊥) → after.left ≡ before.left → kept ≡ None
     → PutsOut before.written after.written before.unwritten after.unwritten (codes "fault words\n") Words result → Ends words before after kept result
-words_end words before after kept result others none puts = line_ends words before after kept (codes "fault words\n") Words result
-    (λ taken. record { text = codes "fault words\n"; output = record { others = others; shown = refl; keeps = none }; taken = taken })
-    (record { others = others; shown = refl; keeps = refl }) none puts
+words_end words before after kept result others unread none puts = line_ends words before after kept (codes "fault words\n") Words result
+    (λ taken. record { text = codes "fault words\n"; output = record { others = others; unread = unread; shown = refl; keeps = none }; taken = taken })
+    (record { others = others; unread = unread; shown = refl; keeps = refl }) none puts
 
 -- a fault of too many bytes says that they were read
 pub past_read : (left rest : Option (List ℕ)) (before now limit : ℕ) (fault : ReadFault) → fault ≡ TooLong → ReadsAll left rest before now limit (Err fault) → IsReadPast left rest limit

@@ -48,9 +48,10 @@ pub record IsTooLong (left rest : Option (List ℕ)) (text : List ℕ) (kept : O
   pub shown : text ≡ codes "fault 0 toolong\n"
   pub keeps : kept ≡ None
 
--- the words are no command
-pub record AreNoCommand (words : List (List ℕ)) (text : List ℕ) (kept : Option Machine) : Type 0 where
+-- the words are no command, and no byte of the source was read
+pub record AreNoCommand (words : List (List ℕ)) (left rest : Option (List ℕ)) (text : List ℕ) (kept : Option Machine) : Type 0 where
   pub others : IsStep words → ⊥
+  pub unread : rest ≡ left
   pub shown : text ≡ codes "fault words\n"
   pub keeps : kept ≡ None
 
@@ -58,7 +59,7 @@ pub record AreNoCommand (words : List (List ℕ)) (text : List ℕ) (kept : Opti
 abbrev pub IsOutput : List (List ℕ) → (left rest : Option (List ℕ)) → Status → List ℕ → Option Machine → Type 0
 IsOutput words left rest Reported text kept = IsStep words × IsReportOn left rest text kept
 IsOutput words left rest Refused text kept = IsStep words × (IsRefusedOn left rest text kept ⊎ IsTooLong left rest text kept)
-IsOutput words left rest Words text kept = AreNoCommand words text kept
+IsOutput words left rest Words text kept = AreNoCommand words left rest text kept
 IsOutput words left rest Unread text kept = ⊥
 IsOutput words left rest Unwritten text kept = ⊥
 IsOutput words left rest Memory text kept = ⊥

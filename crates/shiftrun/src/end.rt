@@ -2,6 +2,8 @@
 ghost use Rattle.std.specs.Prelude.{◌≡◌};
 ghost use Rattle.shiftrun.specs.ReportRuns.{report_end};
 
+use std::alloc::{AllocError, Global};
+use sx_lists::Copied;
 use sx_report::ReportEnd;
 use sx_values::Key;
 
@@ -13,6 +15,19 @@ pub enum End {
     /// The rows of these keys disagree.
     Violated { first: Key, second: Key },
     Switched,
+}
+
+impl Copied for End {
+    fn copy(&self, alloc: Global) -> Result<Self, AllocError> {
+        Ok(match self {
+            End::NoChange => End::NoChange,
+            End::Violated { first, second } => End::Violated {
+                first: first.copy(alloc)?,
+                second: second.copy(alloc)?,
+            },
+            End::Switched => End::Switched,
+        })
+    }
 }
 
 impl End {

@@ -9,8 +9,9 @@ mod status;
 pub use end::End;
 pub use run::{finish, step_all};
 pub use shift::{Word, shift, shift_alone};
+use status::Status;
 use std::process::ExitCode;
-use std::{env, io};
+use std::{env, io, mem};
 use sx_io::{StdSink, StdSource};
 
 fn main(rt: HostRuntime) -> ExitCode {
@@ -21,9 +22,11 @@ fn main(rt: HostRuntime) -> ExitCode {
             let mut sink = StdSink::new(rt.stdout());
             let mut kept = None;
             let status = shift(alloc, words.as_slice(), &mut source, &mut sink, &mut kept);
+            // The process ends here, and its memory with it: it needn't be given back row by row.
+            mem::forget(kept);
             ExitCode::from(status)
         }
-        Err(_) => ExitCode::from(5),
+        Err(_) => ExitCode::from(Status::Memory.code()),
     }
 }
 

@@ -31,6 +31,7 @@ pub(crate) fn run_script(alloc: Global, script: &Script) -> Result<Run, CoreFaul
     ensures run { IfOk result (λ run. IsRun script.now run.core run.text) }
     ensures fault { IfErr result (λ fault. fault ≡ Memory) }
 {
+    // A script that was read can be run: its lines say so.
     let _lines = script.lines();
     let mut core = made(alloc, script)?;
     step_all(alloc, &mut core, script)?;
@@ -44,6 +45,7 @@ fn made(alloc: Global, script: &Script) -> Result<Core, CoreFault>
     ensures made { IfOk result (λ core. core ≡ record { opening = opening_of (plan_of script.now); past = [] }) }
     ensures fault { IfErr result (λ fault. fault ≡ Memory) }
 {
+    // A script that was read can be run: its lines say so.
     let _lines = script.lines();
     let catalog = script.catalog(alloc)?;
     let loads = script.loads(alloc)?;
@@ -60,6 +62,7 @@ pub fn step_all(alloc: Global, core: &mut Core, script: &Script) -> Result<(), C
     ensures lines { OnOk result (HasRunLines (plan_of script.now) (length (plan_of script.now).lines) core.new) }
     ensures fault { IfErr result (λ fault. fault ≡ Memory) }
 {
+    // A script that was read can be run: its lines say so.
     let _lines = script.lines();
     let asked = script.asked(alloc)?;
     for line in asked.as_slice() {
@@ -75,6 +78,7 @@ pub fn finish(alloc: Global, core: &mut Core, script: &Script) -> Result<End, Co
     ensures end { IfOk result (λ end. end ≡ end_of (plan_of script.now).change) }
     ensures fault { IfErr result (λ fault. fault ≡ Memory) }
 {
+    // A script that was read can be run: its lines say so.
     let _lines = script.lines();
     match script.change() {
         None => Ok(End::NoChange),
@@ -92,6 +96,7 @@ fn transform(alloc: Global, core: &mut Core, script: &Script, spec: &Spec) -> Re
     ensures run { OnOk result (HasRun (plan_of script.now) core.new) }
     ensures fault { IfErr result (λ fault. fault ≡ Memory) }
 {
+    // A script that was read can be run: its lines say so.
     let _lines = script.lines();
     core.start(spec.copy(alloc)?, Strategy::Blocking)?;
     while is_scanning(core) {

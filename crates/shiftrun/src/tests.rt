@@ -5,8 +5,10 @@ use crate::*;
 use std::alloc::Global;
 use std::test::Fail;
 use sx_io::{Bytes, MemorySink, MemorySource, Source};
-use sx_lists::List;
+use sx_lists::{Copied, List};
 use sx_sync::Phase;
+use sx_text::put_record;
+use sx_values::{Key, Value};
 
 // A table without a client's lines.
 const SPLIT: &str = "table t id:int* q:int?
@@ -99,6 +101,45 @@ row hi 1,30
 end switched
 ";
 
+// Requests that are refused: a Null where none may be, in a row and in a key, and keys that aren't there.
+const REFUSED: &str = "table t id:int* city:text* v:int
+row t 1,Rome,5
+c1 begin
+c1 insert t 2,Oslo,NULL
+c1 update t 2,Oslo,7
+c1 delete t NULL,Oslo
+c1 delete t 2,NULL
+c1 delete t 2,Oslo
+c1 commit
+";
+
+const REFUSED_REPORT: &str = "script
+table t id:int* city:text* v:int
+row t 1,Rome,5
+c1 begin
+c1 insert t 2,Oslo,NULL
+c1 update t 2,Oslo,7
+c1 delete t NULL,Oslo
+c1 delete t 2,NULL
+c1 delete t 2,Oslo
+c1 commit
+journal
+1 c1 begin begun 1
+2 c1 insert t badrow null 3 2,Oslo,NULL
+3 c1 update t missing 2,Oslo,7
+4 c1 delete t badrow null 1 NULL,Oslo
+5 c1 delete t badrow null 2 2,NULL
+6 c1 delete t missing 2,Oslo
+7 c1 commit committed 2
+log
+1 0 put t 1,Rome,5
+2 1 commit
+tables
+table t
+row t 1,Rome,5
+end none
+";
+
 const EMPTY_REPORT: &str = "script
 journal
 log
@@ -177,6 +218,81 @@ fn a_split_after_writes_is_reported(rt: HostRuntime) -> Result<(), Fail> {
     let ending = step(rt.alloc(), WRITES.as_bytes(), &mut sink)?;
     assert_eq!(rt; ending, (0, Some(Phase::Done)));
     assert_eq!(rt; sink.bytes(), WRITES_REPORT.as_bytes());
+    Ok(())
+}
+
+#[test]
+fn refused_requests_are_reported(rt: HostRuntime) -> Result<(), Fail> {
+    let mut sink = sink(rt.alloc(), 1000, 1000, &[])?;
+    let ending = step(rt.alloc(), REFUSED.as_bytes(), &mut sink)?;
+    assert_eq!(rt; ending, (0, Some(Phase::Idle)));
+    assert_eq!(rt; sink.bytes(), REFUSED_REPORT.as_bytes());
+    Ok(())
+}
+
+// Puts a number between two texts at the end.
+fn put(alloc: Global, out: &mut Vec<u8>, front: &str, number: i64, back: &str) -> Result<(), Fail> {
+    out.extend_from_slice(front.as_bytes())?;
+    put_record(alloc, out, &[Value::Int(number)])?;
+    out.extend_from_slice(back.as_bytes())?;
+    Ok(())
+}
+
+// A table of 65 rows, one more than a scan turn sees, and its split.
+fn many_rows(alloc: Global) -> Result<Vec<u8>, Fail> {
+    let mut out = b"table t id:int*\n".to_vec(alloc)?;
+    for id in 1..=65 {
+        put(alloc, &mut out, "row t ", id, "\n")?;
+    }
+    out.extend_from_slice(b"change part t if id<33 into lo hi\n")?;
+    Ok(out)
+}
+
+// The journal and the log of that split.
+fn put_events(alloc: Global, out: &mut Vec<u8>) -> Result<(), Fail> {
+    out.extend_from_slice(b"journal\n1 p start started 66\n2 p scan 64 0 more")?;
+    for lsn in 1..=64 {
+        put(alloc, out, " ", lsn, "")?;
+    }
+    out.extend_from_slice(b"\n3 p scan 64 0 end 65\n4 p switch switched 67\nlog\n")?;
+    for id in 1..=65 {
+        put(alloc, out, "", id, " 0 put t ")?;
+        put(alloc, out, "", id, "\n")?;
+    }
+    out.extend_from_slice(b"66 p mark\n67 p switch\n")?;
+    Ok(())
+}
+
+// The tables after it.
+fn put_tables(alloc: Global, out: &mut Vec<u8>) -> Result<(), Fail> {
+    out.extend_from_slice(b"tables\ntable t\n")?;
+    for id in 1..=65 {
+        put(alloc, out, "row t ", id, "\n")?;
+    }
+    out.extend_from_slice(b"table lo\n")?;
+    for id in 1..=32 {
+        put(alloc, out, "row lo ", id, "\n")?;
+    }
+    out.extend_from_slice(b"table hi\n")?;
+    for id in 33..=65 {
+        put(alloc, out, "row hi ", id, "\n")?;
+    }
+    Ok(())
+}
+
+#[test]
+fn many_rows_are_scanned_in_turns(rt: HostRuntime) -> Result<(), Fail> {
+    let alloc = rt.alloc();
+    let script = many_rows(alloc)?;
+    let mut report = b"script\n".to_vec(alloc)?;
+    report.extend_from_slice(script.as_slice())?;
+    put_events(alloc, &mut report)?;
+    put_tables(alloc, &mut report)?;
+    report.extend_from_slice(b"end switched\n")?;
+    let mut sink = sink(alloc, 10_000, 10_000, &[])?;
+    let ending = step(alloc, script.as_slice(), &mut sink)?;
+    assert_eq!(rt; ending, (0, Some(Phase::Done)));
+    assert_eq!(rt; sink.bytes(), report.as_slice());
     Ok(())
 }
 
@@ -344,5 +460,30 @@ fn a_failed_write_stands_above_other_faults(rt: HostRuntime) -> Result<(), Fail>
     let ending = call(alloc, none.as_slice(), &mut source, &mut no_words);
     assert_eq!(rt; ending, (4, None));
     assert_eq!(rt; no_words.bytes(), b"fault w".as_slice());
+    Ok(())
+}
+
+// A key of one number.
+fn key(alloc: Global, id: i64) -> Result<Key, Fail> {
+    let mut key = Key::new(alloc);
+    key.push(Value::Int(id))?;
+    Ok(key)
+}
+
+#[test]
+fn ends_are_copied(rt: HostRuntime) -> Result<(), Fail> {
+    let alloc = rt.alloc();
+    let end = End::Violated {
+        first: key(alloc, 1)?,
+        second: key(alloc, 2)?,
+    };
+    match end.copy(alloc)? {
+        End::Violated { first, second } => {
+            assert!(rt; first == key(alloc, 1)?);
+            assert!(rt; second == key(alloc, 2)?);
+        }
+        End::NoChange | End::Switched => assert!(rt; false),
+    }
+    assert!(rt; matches!(End::Switched.copy(alloc)?, End::Switched));
     Ok(())
 }

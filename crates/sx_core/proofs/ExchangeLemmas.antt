@@ -1,5 +1,5 @@
 -- The rows of the new tables: filled in key order, and those of the source before.
-use Rattle.std.proofs.Common.{◌≡◌, ◌∷◌, ◌++◌, ◌||◌, ◌⊎◌, [], ℕ, List, Bool, true, false, cond, map, filter, not, Option, Some, None, Result, Ok, Err, IfOk, option_map, inl, inr, length, reverse, take, nat_eq, arith, refl, sym, ◌∙◌, ap, subst}
+use Rattle.std.proofs.Common.{◌≡◌, ◌∷◌, ◌++◌, ◌||◌, ◌⊎◌, [], ℕ, List, Bool, true, false, cond, map, filter, not, Option, Some, None, Result, Ok, Err, IfOk, option_map, inl, inr, length, reverse, nat_eq, arith, refl, sym, ◌∙◌, ap, subst}
 use Rattle.std.specs.List.{AllByRecursion, IsDistinct}
 use Rattle.std.specs.List.Sorted.{IsStrictlySortedBy}
 use Rattle.std.specs.Ordering.{is_eq, ordering_reverse}
@@ -8,7 +8,6 @@ use Rattle.std.specs.declared.cmp.Ordering.TheVariants.{Less, Equal, Greater}
 use Rattle.std.proofs.lemmas.Bool.Decides.{nat_tests}
 use Rattle.std.proofs.lemmas.List.{append_assoc, append-nil, map-append, reverse-append}
 use Rattle.std.proofs.lemmas.List.Elements.{All-from_recursion, recursion_from_All}
-use Rattle.std.proofs.Math.Seq.{take-length}
 use Rattle.std.proofs.lemmas.Map.Keys.{IsDistinct-from_sorted}
 use Rattle.sx_lists.specs.Answers.{or_later}
 use Rattle.sx_values.specs.declared.value.Value.{Value}
@@ -21,9 +20,7 @@ use Rattle.sx_heap.specs.declared.seen.Seen.{Seen}
 use Rattle.sx_heap.specs.declared.tables.NamedTable.{NamedTable}
 use Rattle.sx_heap.specs.Relations.{Relation, IsRelation, IsRowOf, SetsRow, row_at, row_keys, same_key}
 use Rattle.sx_heap.specs.NamedTables.{LacksKeyOf, table_named, names_of_tables}
-use Rattle.sx_heap.specs.declared.walk.Walked.{Walked}
-use Rattle.sx_heap.specs.Walks.{WalksOn, rows_after}
-use Rattle.sx_heap.proofs.RowLemmas.{found, rows_unique, same_key_tells, rows_after-start}
+use Rattle.sx_heap.proofs.RowLemmas.{found, rows_unique, same_key_tells}
 use Rattle.sx_heap.proofs.WalkLemmas.{values_total}
 use Rattle.sx_log.specs.declared.record.Rec.{Rec}
 use Rattle.sx_ops.specs.declared.spec.Spec.{Spec}
@@ -381,15 +378,10 @@ lock_of_others tables client left earlier e is other =
     let passed : has_lock_on tables client (e ∷ reverse earlier) ≡ has_lock_on tables client (reverse earlier) = rw differs refl in
     sym (ap (has_lock_on tables client) (ap reverse is ∙ reverse-append earlier (e ∷ [])) ∙ passed)
 
--- one turn from the start that may hand out each row hands out each of them
-pub walked_whole : (rows : List Seen) (cursor : Option (List Value)) (n : ℕ) (walked : Walked) → WalksOn rows cursor n walked → cursor ≡ None → n ≡ length rows → walked.seen ≡ rows
-walked_whole rows cursor n walked walks start counts =
-    walks.hands_out ∙ ap (λ from. take n (rows_after from rows)) start ∙ ap (take n) (rows_after-start rows) ∙ ap (λ k. take k rows) counts ∙ take-length rows
-
 -- what a transformation gets as its one source
-pub one_source : (sources none : List (List (List Value))) (taken : List (List Value)) (seen rows : List Seen)
-    → sources ≡ none ++ taken ∷ [] → none ≡ [] → taken ≡ bare_rows seen → seen ≡ rows → sources ≡ bare_rows rows ∷ []
-one_source sources none taken seen rows pushed empty bare all = pushed ∙ rw (empty, bare, all) refl
+pub one_source : (sources none : List (List (List Value))) (taken rows : List (List Value))
+    → sources ≡ none ++ taken ∷ [] → none ≡ [] → taken ≡ rows → sources ≡ rows ∷ []
+one_source sources none taken rows pushed empty bare = pushed ∙ rw (empty, bare) refl
 
 -- what is made is seen as these tables are
 pub made_so : {A E : Type 0} (seen : List NamedTable → A) (made : Result (List NamedTable) E) (all : List NamedTable) (as_seen : A) → IfOk made (λ tables. tables ≡ all) → seen all ≡ as_seen → IfOk made (λ tables. seen tables ≡ as_seen)

@@ -19,7 +19,7 @@ use Rattle.sx_sync.specs.declared.Phase.TheVariants.{Idle}
 use Rattle.sx_journal.specs.declared.entry.Entry.{Entry}
 use Rattle.sx_model.specs.Openings.{opening, load_record, key_in}
 use Rattle.sx_model.specs.Loads.{IsAdmitted, is_repeated, AreApart, AreLoads}
-use Rattle.sx_model.specs.Scans.{oldest}
+use Rattle.sx_log.specs.State.{oldest}
 use Rattle.sx_core.specs.Loading.{empty_table, PutsLoad}
 use Rattle.sx_core.specs.Machines.{Machine}
 use Rattle.sx_core.specs.Kept.{IsKept, TablesMeet}

@@ -23,7 +23,7 @@ use Rattle.sx_model.specs.Openings.{Opening}
 use Rattle.sx_model.specs.Leaves.{living, phase, txn_of, begun}
 use Rattle.sx_model.specs.Logs.{next_lsn, request_record, event_record}
 use Rattle.sx_model.specs.Replies.{client_reply, reply_outside, reply_inside}
-use Rattle.sx_model.specs.Scans.{oldest}
+use Rattle.sx_log.specs.State.{oldest}
 use Rattle.sx_model.specs.Legal.{Legal, IsLegalEntry, Allows, HasRoom}
 use Rattle.sx_core.specs.Machines.{Machine, Turns}
 use Rattle.sx_core.specs.Kept.{IsKept, living_as}

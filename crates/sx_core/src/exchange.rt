@@ -1,5 +1,5 @@
 // The new tables of a transformation, and whose lock hinders its switch.
-ghost use Rattle.std.specs.Prelude.{◌≡◌, ◌∷◌, [], Some, None, reverse, IfOk};
+ghost use Rattle.std.specs.Prelude.{◌≡◌, ◌∷◌, [], Some, None, map, reverse, IfOk};
 ghost use Rattle.std.specs.List.{IsDistinct};
 ghost use Rattle.std.specs.Option.{option_copied};
 ghost use Rattle.sx_values.specs.Names.{same_name};
@@ -15,10 +15,11 @@ ghost use Rattle.sx_core.specs.Kept.{plain_rows};
 ghost use Rattle.sx_core.specs.Exchanges.{source_table, source_schema, bare_rows, target_names, AreInOrder, FillTargets};
 
 use std::alloc::{AllocError, Global};
-use sx_heap::{Cursor, Seens, Table, Tables};
+use sx_heap::{Table, Tables};
 use sx_journal::{Entry, Event, Reply, Request};
+use sx_lists::Copied;
 use sx_ops::{RowLists, Rows, Spec, Targets};
-use sx_values::{Catalog, Name, Schema};
+use sx_values::{Catalog, Name, Row, Schema};
 
 // The source of a horizontal split among the tables; None for any other transformation.
 pub(crate) fn source_table<'a>(spec: &Option<Spec>, tables: &'a Tables) -> Option<&'a Table>
@@ -50,23 +51,23 @@ pub(crate) fn new_tables(
     ensures rows { IfOk result (λ tables. plain_rows tables
         ≡ operator catalog.now spec.now (bare_rows source.now.rows ∷ [])) }
 {
-    let walked = source.walk(alloc, Cursor::start(), source.len())?;
+    let rows = source.rows(alloc)?;
     let mut sources = RowLists::new(alloc);
-    sources.push(rows_of(alloc, walked.seen)?)?;
+    sources.push(copies_of(alloc, rows.as_slice())?)?;
     let lists = spec.transform(alloc, catalog, &sources)?;
     let targets = spec.targets(alloc, catalog)?;
     filled_tables(alloc, targets, lists)
 }
 
-// The rows alone, in their order.
-fn rows_of(alloc: Global, seens: Seens) -> Result<Rows, AllocError>
-    ensures { IfOk result (λ rows. rows ≡ bare_rows seens) }
+// Copies of rows, in their order.
+fn copies_of(alloc: Global, rows: &[&Row]) -> Result<Rows, AllocError>
+    ensures { IfOk result (λ copies. copies ≡ map (λ row. row.now) rows.now) }
 {
-    let mut rows = Rows::new(alloc);
-    for seen in seens.into_vec() {
-        rows.push(seen.row)?;
+    let mut copies = Rows::new(alloc);
+    for row in rows {
+        copies.push(row.copy(alloc)?)?;
     }
-    Ok(rows)
+    Ok(copies)
 }
 
 // A table for each target, in order, with the rows of its list.

@@ -13,3 +13,6 @@ mod turns;
 pub use machine::{Core, CoreFault};
 pub use make::MakeFault;
 pub use sx_log::{Load, Loads};
+
+#[cfg(test)]
+mod tests;

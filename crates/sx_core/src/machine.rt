@@ -6,6 +6,7 @@ use std::alloc::{AllocError, AllocFailed, Global};
 use std::marker::Model;
 use sx_heap::{Cursor, Tables};
 use sx_journal::Journal;
+use sx_lists::Copied;
 use sx_log::Log;
 use sx_ops::Spec;
 use sx_sync::Phase;
@@ -18,6 +19,12 @@ pub enum CoreFault {
     Memory,
     /// The journal is full.
     Full,
+}
+
+impl Copied for CoreFault {
+    fn copy(&self, _alloc: Global) -> Result<Self, AllocError> {
+        Ok(*self)
+    }
 }
 
 impl From<AllocError> for CoreFault {
@@ -51,7 +58,7 @@ pub struct Core {
 
 impl Model for Core {
     ghost use Rattle.std.specs.Prelude.{◌≤◌, length};
-    ghost use Rattle.sx_model.specs.Scans.{oldest};
+    ghost use Rattle.sx_log.specs.State.{oldest};
     ghost use Rattle.sx_core.specs.Machines.{Machine};
     ghost use Rattle.sx_core.specs.Kept.{IsKept};
 

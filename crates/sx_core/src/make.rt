@@ -9,6 +9,7 @@ ghost use Rattle.sx_core.specs.Loading.{empty_table, PutsLoad};
 ghost use Rattle.sx_model.specs.Openings.{opening};
 ghost use Rattle.sx_model.specs.Loads.{AreLoads};
 
+use crate::rows::next_lsn;
 use crate::{Core, Load, Loads};
 use std::alloc::{AllocError, Global};
 use sx_heap::{Cursor, Table, Tables};
@@ -31,6 +32,23 @@ pub enum MakeFault {
     BadRow { place: u64, bad: BadRow },
     /// The load at this place has the key of an earlier load of its table.
     RepeatedKey { place: u64 },
+}
+
+impl Copied for MakeFault {
+    fn copy(&self, alloc: Global) -> Result<Self, AllocError> {
+        Ok(match self {
+            MakeFault::Memory => MakeFault::Memory,
+            MakeFault::TooManyRows { table } => MakeFault::TooManyRows {
+                table: table.copy(alloc)?,
+            },
+            MakeFault::NoTable { place } => MakeFault::NoTable { place: *place },
+            MakeFault::BadRow { place, bad } => MakeFault::BadRow {
+                place: *place,
+                bad: *bad,
+            },
+            MakeFault::RepeatedKey { place } => MakeFault::RepeatedKey { place: *place },
+        })
+    }
 }
 
 impl From<AllocError> for MakeFault {
@@ -94,13 +112,14 @@ fn put_load(alloc: Global, tables: &mut Tables, log: &mut Log, load: Load) -> Re
     };
     let key = table.schema().key_of(alloc, &load.row)?;
     let Load { table, row } = load;
+    log.reserve(1)?;
+    tables.insert(&table, row.copy(alloc)?, next_lsn(log))?;
     let body = Body::Write {
-        table: table.copy(alloc)?,
+        table,
         key,
         before: None,
-        after: Some(row.copy(alloc)?),
+        after: Some(row),
     };
-    log.reserve(1)?;
     log.append(Rec { txn: 0, body });
-    tables.insert(&table, row, log.len())
+    Ok(())
 }

@@ -37,11 +37,10 @@ impl Core {
         self.journal.reserve(1)?;
         self.log.reserve(1)?;
         let (kept, event) = started(self.alloc, spec, strategy)?;
-        self.log.append(Rec {
+        let lsn = self.log.append(Rec {
             txn: 0,
             body: Body::Mark,
         });
-        let lsn = self.log.len();
         self.phase = Phase::Scanning;
         self.spec = Some(kept);
         self.cursor = Cursor::start();
@@ -132,11 +131,10 @@ impl Core {
         let fresh = exchanged(self.alloc, &self.catalog, &self.spec, &self.tables)?;
         self.journal.reserve(1)?;
         self.log.reserve(1)?;
-        self.log.append(Rec {
+        let lsn = self.log.append(Rec {
             txn: 0,
             body: Body::Switch,
         });
-        let lsn = self.log.len();
         self.phase = Phase::Done;
         self.new_tables = fresh;
         self.journal.append(Entry {

@@ -159,7 +159,7 @@ impl Core {
 }
 
 // The LSN of the next record.
-fn next_lsn(log: &Log) -> u64
+pub(crate) fn next_lsn(log: &Log) -> u64
     ensures { result ≡ length log.now.newest + 1 }
 {
     log.as_slice().len() as u64 + 1

@@ -68,11 +68,10 @@ impl Core {
         self.journal.reserve(1)?;
         self.log.reserve(1)?;
         self.living = None;
-        self.log.append(Rec {
+        let lsn = self.log.append(Rec {
             txn,
             body: Body::Commit,
         });
-        let lsn = self.log.len();
         self.journal.append(Entry {
             actor,
             event: Event::Client(Request::Commit),

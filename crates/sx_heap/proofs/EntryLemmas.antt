@@ -1,6 +1,6 @@
 -- The rows of a map's entries: at a key, in order, and between bounds.
-use Rattle.std.proofs.Common.{◌≡◌, ◌↔◌, IsTrue, ◌∷◌, ◌++◌, [], ◌+◌, ◌&&◌, ℕ, zero, suc, List, Bool, true, false, Option, Some, None, option_map, refl, sym, ap, ◌∙◌, subst, cond, take, drop, All}
-use Rattle.std.specs.Map.{lookup, keys_of}
+use Rattle.std.proofs.Common.{◌≡◌, ◌↔◌, IsTrue, ◌∷◌, ◌++◌, [], ◌+◌, ◌&&◌, ℕ, zero, suc, List, Bool, true, false, Option, Some, None, option_map, refl, sym, ap, ◌∙◌, subst, cond, map, take, drop, All}
+use Rattle.std.specs.Map.{lookup, keys_of, values_of}
 use Rattle.std.specs.BTreeMap.{is_at, insert_entry}
 use Rattle.std.specs.BTreeMap.Range.{entries_between}
 use Rattle.std.specs.Ordering.{match_ordering}
@@ -102,3 +102,8 @@ rows_of-none (e ∷ es) over h = (λ t. absurd (filled (h.0 t)), λ none. absurd
 
     listed : (seen_of e ∷ rows_of es) ≡ [] → ⊥
     listed k = cc
+
+-- the rows of the values of entries are those of the entries
+pub bare_rows_of : (es : List (List Value × Stamped)) → map (λ (s : Stamped). s.row) (values_of es) ≡ map (λ (s : Seen). s.row) (rows_of es)
+bare_rows_of [] = refl
+bare_rows_of (e ∷ es) = ap (λ rows. e.1.row ∷ rows) (bare_rows_of es)

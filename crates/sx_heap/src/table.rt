@@ -1,5 +1,5 @@
 // A table: its rows by key.
-ghost use Rattle.std.specs.Prelude.{◌≡◌, ◌==◌, [], None, length, option_map, take, drop, IfOk, OnOk, OnErr, IsSome};
+ghost use Rattle.std.specs.Prelude.{◌≡◌, ◌==◌, [], None, length, map, option_map, take, drop, IfOk, OnOk, OnErr, IsOk, IsSome};
 ghost use Rattle.sx_values.specs.Layouts.{Admits, key_of};
 ghost use Rattle.sx_heap.specs.Relations.{IsRelation, IsRowOf, SetsRow, row_at};
 ghost use Rattle.sx_heap.specs.Walks.{WalksOn};
@@ -111,9 +111,10 @@ impl Table {
         self.put(key, newer)
     }
 
-    /// Takes out the row of a key. Want of memory changes nothing.
+    /// Takes out the row of a key. It takes no memory, so it is always done.
     pub fn remove(&mut self, key: &Key) -> Result<(), AllocError>
         requires { IsSome (row_at self.old.rows key.now) }
+        ensures done { IsOk result }
         ensures ok { OnOk result (SetsRow self.old self.new key.now None) }
         ensures err { OnErr result (self.new ≡ self.old) }
     {
@@ -131,6 +132,18 @@ impl Table {
         let over = ahead.next().is_none();
         let next = cursor.moved_past(alloc, seen.as_slice())?;
         Ok(Walked { seen, next, over })
+    }
+
+    /// The rows where they stand, in key order.
+    pub fn rows(&self, alloc: Global) -> Result<Vec<&Row>, AllocError>
+        ensures rows { IfOk result (λ rows. map (λ row. row.now) rows.items ≡ map (λ seen. seen.row) self.now.rows) }
+        ensures relation { IsRelation self.now }
+    {
+        let mut rows = Vec::new(alloc);
+        for stamped in self.rows.values() {
+            rows.push(&stamped.row)?;
+        }
+        Ok(rows)
     }
 
     // Puts a row at its key.

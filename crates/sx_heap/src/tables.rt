@@ -1,5 +1,5 @@
 // Tables by name.
-ghost use Rattle.std.specs.Prelude.{◌≡◌, ◌==◌, [], ◌∷◌, ◌++◌, ◌<◌, None, length, OnOk, OnErr, IfSome, IsSome, IsSomeAnd, option_map};
+ghost use Rattle.std.specs.Prelude.{◌≡◌, ◌==◌, [], ◌∷◌, ◌++◌, ◌<◌, None, length, OnOk, OnErr, IsOk, IfSome, IsSome, IsSomeAnd, option_map};
 ghost use Rattle.sx_values.specs.Names.{same_name};
 ghost use Rattle.std.specs.Option.{option_copied, option_copied_mut};
 ghost use Rattle.sx_lists.specs.Places.{at_place};
@@ -129,10 +129,11 @@ impl Tables {
         }
     }
 
-    /// Takes the row of a key out of the table of a name. Want of memory changes nothing.
+    /// Takes the row of a key out of the table of a name. It takes no memory, so it is always done.
     #[tactic(auto, using(crate::proofs::NameLemmas::with_table_same))]
     pub fn remove(&mut self, name: &Name, key: &Key) -> Result<(), AllocError>
         requires { IsSomeAnd (table_named self.old name.now) (λ table. IsSome (row_at table.rows key.now)) }
+        ensures done { IsOk result }
         ensures ok { OnOk result (RemovesRowIn self.old self.new name.now key.now) }
         ensures err { OnErr result (self.new ≡ self.old) }
     {

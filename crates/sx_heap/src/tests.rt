@@ -1,9 +1,9 @@
 // Rows that are put in out of order, by key, in turns and by the name of their table.
-use crate::{Cursor, Table, Tables};
+use crate::{Cursor, Table, Tables, Walked};
 use std::alloc::Global;
 use std::process::Abort;
 use std::test::Fail;
-use sx_lists::{List, Same};
+use sx_lists::{Copied, List, Same};
 use sx_values::{Column, Key, Kind, Name, Row, Schema, Value};
 
 // A number as the key, and another.
@@ -154,6 +154,41 @@ fn turns_that_end_at_the_end(rt: HostRuntime) -> Result<(), Fail> {
     )?;
     let empty = Table::new(alloc, schema(alloc)?);
     let _none = turn(&rt, alloc, &empty, Cursor::start(), 2, &[], true)?;
+    Ok(())
+}
+
+#[test]
+fn rows_in_key_order(rt: HostRuntime) -> Result<(), Fail> {
+    let alloc = rt.alloc();
+    let mut table = Table::new(alloc, schema(alloc)?);
+    assert_eq!(rt; table.rows(alloc)?.len(), 0);
+    insert(&rt, alloc, &mut table, row(alloc, 2, 5)?, 1)?;
+    insert(&rt, alloc, &mut table, row(alloc, 1, 6)?, 2)?;
+    let rows = table.rows(alloc)?;
+    assert_eq!(rt; rows.len(), 2);
+    assert!(rt; rows[0].is_same(&row(alloc, 1, 6)?));
+    assert!(rt; rows[1].is_same(&row(alloc, 2, 5)?));
+    Ok(())
+}
+
+// A walk's turn through a table of one row.
+fn one_walked(rt: &impl Abort, alloc: Global) -> Result<Walked, Fail> {
+    let mut table = Table::new(alloc, schema(alloc)?);
+    insert(rt, alloc, &mut table, row(alloc, 2, 5)?, 9)?;
+    Ok(table.walk(alloc, Cursor::start(), 3)?)
+}
+
+#[test]
+fn a_turn_is_copied(rt: HostRuntime) -> Result<(), Fail> {
+    let alloc = rt.alloc();
+    let copy = one_walked(&rt, alloc)?.copy(alloc)?;
+    assert!(rt; copy.over);
+    let [seen] = copy.seen.as_slice() else {
+        return Err(Fail::new("another number of rows"));
+    };
+    assert_eq!(rt; seen.lsn, 9);
+    assert!(rt; seen.row.is_same(&row(alloc, 2, 5)?));
+    assert!(rt; seen.key.is_same(&key(alloc, 2)?));
     Ok(())
 }
 

@@ -1,5 +1,5 @@
 -- Counts of faults, and what a fault needs of them.
-use Rattle.std.specs.Prelude.{ℕ, ◌+◌, ◌-◌, ◌^◌, ◌≤◌, min, Result, OnErr}
+use Rattle.std.specs.Prelude.{◌≡◌, ℕ, ◌+◌, ◌-◌, ◌^◌, ◌≤◌, min, Result, Ok, Err, OnErr}
 
 -- one more, or the same at the end of 64 bits
 abbrev pub next_count : ℕ → ℕ
@@ -13,3 +13,8 @@ Rose before now = next_count before ≤ now
 pub record HasCause {T E : Type 0} (before now : ℕ) (result : Result T E) : Type 0 where
   pub later : before ≤ now
   pub failed : OnErr result (Rose before now)
+
+-- a call that fails counts one more, and another leaves the count as it was
+abbrev pub Counts : {T E : Type 0} → (before now : ℕ) → Result T E → Type 0
+Counts before now (Ok done) = now ≡ before
+Counts before now (Err failed) = now ≡ next_count before

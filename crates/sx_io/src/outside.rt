@@ -5,12 +5,20 @@ ghost use Rattle.std.specs.Io.{ReadsAtMost, WritesAtMost};
 ghost use Rattle.std.specs.Io.KnownBytes.{ReadConsumes, WriteAppends};
 ghost use Rattle.sx_io.specs.Causes.{HasCause};
 
+use std::alloc::{AllocError, Global};
+use sx_lists::Copied;
 use thiserror::Error;
 
 /// A read or a write that failed. It has moved no byte.
 #[derive(Clone, Copy, Debug, PartialEq, Eq, Error)]
 #[error("a read or a write failed")]
 pub struct Failed;
+
+impl Copied for Failed {
+    fn copy(&self, _alloc: Global) -> Result<Self, AllocError> {
+        Ok(*self)
+    }
+}
 
 /// Where bytes come from.
 pub trait Source {

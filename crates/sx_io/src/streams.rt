@@ -1,5 +1,8 @@
 // The readers and writers of the standard library as sources and sinks. They know of the content what those tell.
-ghost use Rattle.std.specs.Prelude.{◌≡◌};
+ghost use Rattle.std.specs.Prelude.{◌≡◌, ◌<◌, length, IfOk};
+ghost use Rattle.std.specs.Io.{ReadsAtMost, WritesAtMost};
+ghost use Rattle.std.specs.Io.KnownBytes.{ReadConsumes, WriteAppends};
+ghost use Rattle.sx_io.specs.Causes.{HasCause, Counts};
 
 use crate::{Failed, Sink, Source};
 use std::io::{Read, Write};
@@ -26,7 +29,13 @@ impl<R: Read> Source for StdSource<R> {
 
     ghost faults = { λ s. s.faults };
 
-    fn read(&mut self, buf: &mut [u8]) -> Result<usize, Failed> {
+    fn read(&mut self, buf: &mut [u8]) -> Result<usize, Failed>
+        requires { 0 < length buf.old }
+        ensures bound { ReadsAtMost result buf.new }
+        ensures bytes { ReadConsumes (R.remaining self.old.inner) (R.remaining self.new.inner) result buf.new }
+        ensures cause { HasCause self.old.faults self.new.faults result }
+        ensures exact { Counts self.old.faults self.new.faults result }
+    {
         match self.inner.read(buf) {
             Ok(count) => Ok(count),
             Err(_) => {
@@ -63,7 +72,14 @@ impl<W: Write> Sink for StdSink<W> {
 
     ghost faults = { λ s. s.faults };
 
-    fn write(&mut self, bytes: &[u8]) -> Result<usize, Failed> {
+    fn write(&mut self, bytes: &[u8]) -> Result<usize, Failed>
+        requires { 0 < length bytes.now }
+        ensures progress { IfOk result (λ count. 0 < count) }
+        ensures bound { WritesAtMost result bytes.now }
+        ensures bytes { WriteAppends (W.contents self.old.inner) (W.contents self.new.inner) result bytes.now }
+        ensures cause { HasCause self.old.faults self.new.faults result }
+        ensures exact { Counts self.old.faults self.new.faults result }
+    {
         match self.inner.write(bytes) {
             Ok(count) if count > 0 => Ok(count),
             _ => {

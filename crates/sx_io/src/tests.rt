@@ -6,7 +6,7 @@ use super::*;
 use std::alloc::{AllocError, Global};
 use std::io::{self, ErrorKind, Read, Write};
 use std::test::Fail;
-use sx_lists::List;
+use sx_lists::{Copied, List};
 
 const TEXT: [u8; 12] = *b"hello, world";
 
@@ -206,5 +206,17 @@ fn streams_count_their_faults(rt: HostRuntime) -> Result<(), Fail> {
     assert_eq!(rt; write_all(&mut to, &TEXT), Err(WriteFault { taken: 0 }));
     assert_eq!(rt; write_all(&mut to, &TEXT), Err(WriteFault { taken: 0 }));
     assert_eq!(rt; to.faults(), 2);
+    Ok(())
+}
+
+#[test]
+fn faults_are_copied(rt: HostRuntime) -> Result<(), Fail> {
+    let alloc = rt.alloc();
+    assert_eq!(rt; Failed.copy(alloc)?, Failed);
+    for fault in [ReadFault::Memory, ReadFault::Failed, ReadFault::TooLong] {
+        assert_eq!(rt; fault.copy(alloc)?, fault);
+    }
+    let fault = WriteFault { taken: 7 };
+    assert_eq!(rt; fault.copy(alloc)?, fault);
     Ok(())
 }

@@ -5,6 +5,7 @@ ghost use Rattle.sx_io.specs.declared.whole.ReadFault.TheVariants as fault;
 
 use crate::{Bytes, Failed, Sink, Source};
 use std::alloc::{AllocError, Global};
+use sx_lists::Copied;
 use thiserror::Error;
 
 // How many bytes are read at a time.
@@ -22,6 +23,12 @@ pub enum ReadFault {
     /// There are more bytes than the limit.
     #[error("more bytes than the limit")]
     TooLong,
+}
+
+impl Copied for ReadFault {
+    fn copy(&self, _alloc: Global) -> Result<Self, AllocError> {
+        Ok(*self)
+    }
 }
 
 impl From<AllocError> for ReadFault {
@@ -46,6 +53,12 @@ impl From<Failed> for ReadFault {
 pub struct WriteFault {
     /// How many bytes the sink took.
     pub taken: u64,
+}
+
+impl Copied for WriteFault {
+    fn copy(&self, _alloc: Global) -> Result<Self, AllocError> {
+        Ok(*self)
+    }
 }
 
 /// Reads to the end. A source with more bytes than the limit is read one byte past it.

@@ -2,7 +2,8 @@
 ghost use Rattle.std.specs.Prelude.{◌≡◌};
 ghost use Rattle.sx_lang.specs.declared.fault.LangFault.TheVariants.{Memory};
 
-use std::alloc::{AllocError, AllocFailed};
+use std::alloc::{AllocError, AllocFailed, Global};
+use sx_lists::Copied;
 
 /// Why a text gives no transformation.
 #[derive(Clone, Copy, Debug, PartialEq, Eq)]
@@ -10,6 +11,12 @@ pub enum LangFault {
     Memory,
     /// It is the text of none.
     NotText,
+}
+
+impl Copied for LangFault {
+    fn copy(&self, _alloc: Global) -> Result<Self, AllocError> {
+        Ok(*self)
+    }
 }
 
 impl From<AllocError> for LangFault {

@@ -1,5 +1,6 @@
 // Transformations as texts.
 ghost use Rattle.std.specs.Prelude.{◌≡◌, ◌++◌, ◌∷◌, [], IfOk, OnOk, codes};
+ghost use Rattle.sx_ops.specs.Checks.{IsPart};
 ghost use Rattle.sx_lang.specs.Spelling.{cmp_text, constant_text, doubled, further_text, source_text, spec_text, targets_text, test_text, tests_text};
 
 use itoa::Buffer;
@@ -8,8 +9,9 @@ use sx_lists::List;
 use sx_ops::{Cmp, Spec, Test};
 use sx_values::{Name, Value};
 
-/// The text of a transformation.
+/// The text of a horizontal split.
 pub fn print_spec(alloc: Global, spec: &Spec) -> Result<List<u8>, AllocError>
+    requires { IsPart spec.now }
     ensures { IfOk result (λ text. text ≡ spec_text spec.now) }
 {
     let mut out = Vec::new(alloc);
@@ -18,6 +20,7 @@ pub fn print_spec(alloc: Global, spec: &Spec) -> Result<List<u8>, AllocError>
 }
 
 fn put_spec(out: &mut Vec<u8>, spec: &Spec) -> Result<(), AllocError>
+    requires { IsPart spec.now }
     ensures { OnOk result (out.new.items ≡ out.old.items ++ spec_text spec.now) }
 {
     match spec {
@@ -30,7 +33,7 @@ fn put_spec(out: &mut Vec<u8>, spec: &Spec) -> Result<(), AllocError>
             put_source(out, table, tests.as_slice())?;
             put_targets(out, yes, no)
         }
-        Spec::Join { .. } | Spec::Split { .. } | Spec::Union { .. } => Ok(()),
+        Spec::Join { .. } | Spec::Split { .. } | Spec::Union { .. } => unreachable!(),
     }
 }
 

@@ -2,6 +2,7 @@
 use crate::*;
 use std::alloc::Global;
 use std::test::Fail;
+use sx_lists::Copied;
 
 // The text that is printed for what a text is read as.
 fn again(alloc: Global, text: &[u8]) -> Result<Vec<u8>, Fail> {
@@ -41,4 +42,12 @@ fn other_texts_are_refused(rt: HostRuntime) {
     ] {
         assert_eq!(rt; parse_spec(alloc, text).err(), Some(LangFault::NotText));
     }
+}
+
+#[test]
+fn faults_are_copied(rt: HostRuntime) -> Result<(), Fail> {
+    for fault in [LangFault::Memory, LangFault::NotText] {
+        assert_eq!(rt; fault.copy(rt.alloc())?, fault);
+    }
+    Ok(())
 }

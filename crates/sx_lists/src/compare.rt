@@ -1,9 +1,12 @@
-// Equality and order of lists, item by item, a prefix first.
+// Equality, order and hashes of lists, item by item, a prefix first.
 ghost use Rattle.std.specs.Prelude.{◌≡◌};
+ghost use Rattle.std.specs.Hash as fed;
+ghost use Rattle.std.specs.Hash.{items_Alike};
 ghost use Rattle.std.specs.Cmp.Lexicographic.{pointwise, slice_cmp, slice_partial_cmp, lists_equiv, lists_agrees, lists_total, lists_ties, lists_po, lists_per};
 
 use crate::List;
 use std::cmp::Ordering;
+use std::hash::{Hash, Hasher};
 
 impl<T: PartialEq> PartialEq for List<T> {
     ghost eq = { λ x y. pointwise T.eq x y };
@@ -40,5 +43,15 @@ impl<T: Ord> Ord for List<T> {
 
     fn cmp(&self, other: &Self) -> Ordering {
         self.as_slice().cmp(other.as_slice())
+    }
+}
+
+impl<T: Hash> Hash for List<T> {
+    ghost hash_input = { λ items. fed.slice T.hash_input items };
+
+    ghost respects_eq = { (items_Alike (record { fed = T.respects_eq })).fed };
+
+    fn hash<H: Hasher>(&self, state: &mut H) {
+        self.as_slice().hash(state);
     }
 }

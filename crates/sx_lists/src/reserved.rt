@@ -1,5 +1,5 @@
 // A list that grows at its end within room that was reserved before.
-ghost use Rattle.std.specs.Prelude.{◌≡◌, ◌≤◌, ◌<◌, ◌+◌, ◌==◌, [], ◌∷◌, length, reverse, take, drop, IfOk, OnOk, OnErr};
+ghost use Rattle.std.specs.Prelude.{◌≡◌, ◌≤◌, ◌<◌, ◌+◌, ◌==◌, [], ◌∷◌, length, reverse, take, drop, IfOk, IsOk, OnOk, OnErr};
 ghost use Rattle.std.specs.Option.{option_copied};
 ghost use Rattle.sx_lists.specs.Places.{Growing, numbered, following};
 
@@ -42,18 +42,21 @@ impl<T> Reserved<T> {
         ensures items { self.new.newest ≡ self.old.newest }
         ensures room { OnOk result (n ≤ self.new.spare) }
         ensures no_less { self.old.spare ≤ self.new.spare }
+        ensures succeeds { n ≤ self.old.spare → IsOk result }
         ensures err { OnErr result (self.new ≡ self.old) }
     {
         self.items.reserve(n as usize)
     }
 
-    /// Puts an item at the end, which takes no memory.
-    pub fn append(&mut self, item: T)
+    /// Puts an item at the end, which takes no memory, and answers its place.
+    pub fn append(&mut self, item: T) -> u64
         requires { 0 < self.old.spare }
+        ensures place { result ≡ length self.new.newest }
         ensures item { self.new.newest ≡ item ∷ self.old.newest }
         ensures room { self.new.spare + 1 ≡ self.old.spare }
     {
         self.items.push_reserved(item);
+        self.len()
     }
 
     /// How many items there are.

@@ -1,5 +1,5 @@
 -- The rows that a log leaves, key by key. A log is seen newest first.
-use Rattle.std.specs.Prelude.{◌+◌, ◌&&◌, Bool, ℕ, List, [], ◌∷◌, length, Option, Some, None, option_map, if◌then◌else◌}
+use Rattle.std.specs.Prelude.{◌+◌, ◌-◌, ◌&&◌, Bool, ℕ, List, [], ◌∷◌, length, drop, Option, Some, None, option_map, if◌then◌else◌}
 use Rattle.sx_values.specs.Names.{same_name}
 use Rattle.sx_values.specs.Values.{values_eq}
 use Rattle.sx_values.specs.declared.value.Value.{Value}
@@ -35,6 +35,14 @@ abbrev pub state_at : List Rec → List ℕ → List Value → Option Stored
 state_at [] table key = None
 state_at (r ∷ past) table key = after_body (length past + 1) r.body table key (state_at past table key)
 
--- the same without the LSN
+-- the oldest n records of a log
+abbrev pub oldest : ℕ → List Rec → List Rec
+oldest n log = drop (length log - n) log
+
+-- what a key of a table has in the state at a place of a log: behind the record there, or behind none at place 0
+abbrev pub state_at_place : List Rec → ℕ → List ℕ → List Value → Option Stored
+state_at_place log place table key = state_at (oldest place log) table key
+
+-- the same as at the end, without the LSN
 abbrev pub row_left : List Rec → List ℕ → List Value → Option (List Value)
 row_left log table key = option_map (λ (s : Stored). s.0) (state_at log table key)

@@ -5,8 +5,8 @@ use Rattle.std.specs.List.{AllByRecursion}
 use Rattle.sx_lists.specs.Places.{numbered}
 use Rattle.sx_values.specs.declared.value.Value.{Value}
 use Rattle.sx_log.specs.declared.record.Rec.{Rec}
-use Rattle.sx_log.specs.State.{Stored, stored, after_body, state_at}
-use Rattle.sx_model.specs.Scans.{is_about, has_lsn, reading, oldest, Covers, IsRowNow, SawAll}
+use Rattle.sx_log.specs.State.{Stored, stored, after_body, oldest, state_at}
+use Rattle.sx_model.specs.Scans.{is_about, has_lsn, reading, Covers, IsRowNow, SawAll}
 use Rattle.sx_model.proofs.StateLaws.{image_of, after_elsewhere, after_there}
 use Rattle.sx_model.proofs.TestLaws.{by_cases, chosen, passed, and_false_first, and_false_second, and_both, or_rest}
 use Rattle.sx_model.proofs.LsnLaws.{record_of, about_one, numbered_within, numbered-here, numbered-earlier}

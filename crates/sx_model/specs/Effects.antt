@@ -3,6 +3,7 @@ use Rattle.std.specs.Prelude.{Bool, ℕ, List}
 use Rattle.sx_journal.specs.declared.entry.Reply.{Reply}
 use Rattle.sx_journal.specs.declared.entry.Reply.TheVariants as reply
 
+-- what an answer does to the log, the transactions and the transformation
 pub data Effect : Type 0 where
   -- a refusal, or an answer that tells something and changes nothing
   Nothing : Effect
@@ -25,6 +26,7 @@ pub data Effect : Type 0 where
   Switches : Effect
   Cancels : Effect
 
+-- what each answer does
 unfoldable pub effect : Reply → Effect
 effect (reply.Begun txn) = Begins txn
 effect (reply.Row row) = Reads

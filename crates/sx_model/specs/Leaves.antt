@@ -40,6 +40,7 @@ txn_among (l ∷ others) client = if l.client == client then Some l.txn else txn
 abbrev pub txn_of : List Entry → ℕ → Option ℕ
 txn_of past client = txn_among (living past) client
 
+-- how many transactions have begun after an answer
 abbrev pub begun_after : Effect → ℕ → ℕ
 begun_after (Begins txn) begun = begun + 1
 begun_after other begun = begun
@@ -70,6 +71,7 @@ abbrev pub started : List Entry → Option Started
 started [] = None
 started (e ∷ past) = started_by e.event (effect e.reply) (started past)
 
+-- whether old transactions keep the switch waiting
 abbrev pub is_blocking : Strategy → Bool
 is_blocking Blocking = true
 is_blocking NonBlockingAbort = false

@@ -38,12 +38,14 @@ ScanAnswer o past n reply.NoTransform = (phase past ≡ Idle) ⊎ (phase past �
 ScanAnswer o past n reply.ScanOver = (phase past ≡ Chasing) ⊎ (phase past ≡ Draining)
 ScanAnswer o past n other = ⊥
 
+-- a scan turn is the propagator's, of 1 to 64 rows, and its answer is one that the walk allows
 pub record AllowsScan (o : Opening) (past : List Entry) (actor n : ℕ) (answer : Reply) : Type 0 where
   pub propagator : actor ≡ 0
   pub some : 1 ≤ n
   pub few : n ≤ 64
   pub answered : ScanAnswer o past n answer
 
+-- an attempt to switch is the propagator's, and its answer is the one that the definition gives
 pub record AllowsSwitch (o : Opening) (past : List Entry) (actor : ℕ) (answer : Reply) : Type 0 where
   pub propagator : actor ≡ 0
   pub answered : answer ≡ switch_reply o past
@@ -58,6 +60,7 @@ Allows o past actor (event.Fetch n) answer = ⊥
 Allows o past actor (event.Check group) answer = ⊥
 Allows o past actor event.Cancel answer = ⊥
 
+-- whether an answer says that a transaction was committed
 unfoldable pub is_committed : Reply → Bool
 is_committed (reply.Committed lsn) = true
 is_committed other = false

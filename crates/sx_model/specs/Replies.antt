@@ -33,14 +33,17 @@ abbrev pub change_answer : Opening → List Entry → Option (List Value) → Re
 change_answer o past (Some row) = reply.Done (next_lsn o past)
 change_answer o past None = reply.Missing
 
+-- an insert is refused where its table isn't declared, its row isn't admitted or its key is there
 abbrev pub insert_reply : Opening → List Entry → List ℕ → Option Layout → List Value → Reply
 insert_reply o past table None row = reply.NoTable
 insert_reply o past table (Some layout) row = unless_bad (row_fault layout row) (insert_answer o past (row_now o past table (key_of layout row)))
 
+-- an update is refused where its table isn't declared, its row isn't admitted or its key is missing
 abbrev pub update_reply : Opening → List Entry → List ℕ → Option Layout → List Value → Reply
 update_reply o past table None row = reply.NoTable
 update_reply o past table (Some layout) row = unless_bad (row_fault layout row) (change_answer o past (row_now o past table (key_of layout row)))
 
+-- a delete is refused where its table isn't declared, its key isn't admitted or is missing
 abbrev pub delete_reply : Opening → List Entry → List ℕ → Option Layout → List Value → Reply
 delete_reply o past table None key = reply.NoTable
 delete_reply o past table (Some layout) key = unless_bad (key_fault layout key) (change_answer o past (row_now o past table key))
@@ -60,6 +63,7 @@ reply_inside o past request.Commit = Some (reply.Committed (next_lsn o past))
 reply_inside o past (request.Read table key) = None
 reply_inside o past request.Undo = None
 
+-- the answer to a client that is in this transaction, or in none
 abbrev pub reply_in : Opening → List Entry → Option ℕ → Request → Option Reply
 reply_in o past None asked = Some (reply_outside past asked)
 reply_in o past (Some txn) asked = reply_inside o past asked
@@ -73,6 +77,7 @@ abbrev pub start_answer : Opening → List Entry → Option SpecFault → Reply
 start_answer o past (Some fault) = reply.BadSpec fault
 start_answer o past None = reply.Started (next_lsn o past)
 
+-- a start is answered by the phase: only an idle machine looks at the transformation
 abbrev pub start_in : Opening → List Entry → Phase → Spec → Reply
 start_in o past Idle spec = start_answer o past (spec_fault o.catalog spec)
 start_in o past Scanning spec = reply.Running

@@ -1,11 +1,11 @@
 -- What a scan without locks has seen, and which scan turns are allowed.
-use Rattle.std.specs.Prelude.{◌≡◌, ◌≤◌, ◌<◌, ◌+◌, ◌-◌, ◌&&◌, ◌++◌, ◌⊎◌, Bool, false, not, IsTrue, ℕ, List, [], ◌∷◌, length, Option, Some, None, nat_eq, slice_get, if◌then◌else◌, drop}
+use Rattle.std.specs.Prelude.{◌≡◌, ◌≤◌, ◌<◌, ◌+◌, ◌&&◌, ◌++◌, ◌⊎◌, Bool, false, not, IsTrue, ℕ, List, [], ◌∷◌, length, Option, Some, None, nat_eq, slice_get, if◌then◌else◌}
 use Rattle.std.specs.List.{list_any, IsDistinct, AllByRecursion}
 use Rattle.sx_values.specs.declared.value.Value.{Value}
 use Rattle.sx_log.specs.declared.record.Rec.{Rec}
 use Rattle.sx_log.specs.declared.record.Body.{Body}
 use Rattle.sx_log.specs.declared.record.Body.TheVariants.{Write, Undo, Commit, Abort, Mark, Check, Switch}
-use Rattle.sx_log.specs.State.{Stored, is_place, state_at, after_body}
+use Rattle.sx_log.specs.State.{Stored, is_place, state_at, state_at_place, after_body}
 use Rattle.sx_ops.specs.Operators.{sources_of}
 use Rattle.sx_journal.specs.declared.entry.Entry.{Entry}
 use Rattle.sx_journal.specs.declared.entry.Event.{Event}
@@ -18,6 +18,7 @@ use Rattle.sx_model.specs.Openings.{Opening}
 use Rattle.sx_model.specs.Leaves.{Started, started, phase}
 use Rattle.sx_model.specs.Logs.{log_of}
 
+-- the LSNs that the scan has seen after an answer: a start sees none, a turn adds its own
 abbrev pub seen_after : Effect → List ℕ → List ℕ
 seen_after (Starts mark) seen = []
 seen_after (Sees lsns last) seen = seen ++ lsns
@@ -28,6 +29,7 @@ abbrev pub seen : List Entry → List ℕ
 seen [] = []
 seen (e ∷ past) = seen_after (effect e.reply) (seen past)
 
+-- whether an LSN is among these
 abbrev pub has_lsn : List ℕ → ℕ → Bool
 has_lsn lsns lsn = list_any (nat_eq lsn) lsns
 
@@ -48,16 +50,12 @@ reading (r ∷ past) lsns table key =
     if has_lsn lsns (length past + 1) && is_about r.body table key then after_body (length past + 1) r.body table key None
     else reading past lsns table key
 
--- the oldest n records of a log
-abbrev pub oldest : ℕ → List Rec → List Rec
-oldest n log = drop (length log - n) log
-
 -- what was seen of a key is what the log left there at some place from the Mark on
 pub record IsCovered (log : List Rec) (mark : ℕ) (lsns : List ℕ) (table : List ℕ) (key : List Value) : Type 0 where
   pub place : ℕ
   pub from_mark : mark ≤ place
   pub until_now : place ≤ length log
-  pub same : reading log lsns table key ≡ state_at (oldest place log) table key
+  pub same : reading log lsns table key ≡ state_at_place log place table key
 
 -- a table is covered where each of its keys is
 abbrev pub Covers : List Rec → ℕ → List ℕ → List ℕ → Type 0
@@ -82,10 +80,12 @@ abbrev pub side_table : Option Started → ℕ → Option (List ℕ)
 side_table None side = None
 side_table (Some s) side = slice_get (sources_of s.spec) side
 
+-- the side is the last of the transformation's sources
 abbrev pub IsLastSide : Option Started → ℕ → Type 0
 IsLastSide None side = ⊥
 IsLastSide (Some s) side = side + 1 ≡ length (sources_of s.spec)
 
+-- the LSN of the Mark of the transformation that started last
 abbrev pub mark_of : Option Started → ℕ
 mark_of None = 0
 mark_of (Some s) = s.mark

@@ -53,6 +53,7 @@ abbrev pub KeepsScript : Plan → List Entry → Type 0
 KeepsScript plan [] = ⊤
 KeepsScript plan (e ∷ past) = KeepsScript plan past × KeepsEvent plan past e.actor e.event
 
+-- the phases behind a switch
 abbrev pub IsSwitched : Phase → Type 0
 IsSwitched Late = ⊤
 IsSwitched Done = ⊤
@@ -82,9 +83,11 @@ pub record Turn : Type 0 where
   pub actor : ℕ
   pub event : Event
 
+-- the turn of a client's line
 abbrev pub client_turn : Line → Turn
 client_turn l = record { actor = l.client; event = Client l.asked }
 
+-- the turn of an event of the propagator
 abbrev pub propagator_turn : Event → Turn
 propagator_turn event = record { actor = 0; event = event }
 

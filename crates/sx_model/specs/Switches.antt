@@ -21,6 +21,7 @@ use Rattle.sx_model.specs.Openings.{Opening}
 use Rattle.sx_model.specs.Leaves.{Living, living, Started, started, is_blocking, phase}
 use Rattle.sx_model.specs.Logs.{log_of, next_lsn}
 
+-- the position after an answer: a start sets it to its Mark, a fetch to the end of what it fetched, an attempt that finds a disagreement to the end of the log
 abbrev pub position_after : ℕ → Effect → ℕ → ℕ
 position_after end (Starts mark) position = mark
 position_after end (Fetches place) position = place
@@ -38,6 +39,7 @@ takes_lock Writes = true
 takes_lock Reads = true
 takes_lock other = false
 
+-- whether a transaction begins with an answer
 abbrev pub begins : Effect → Bool
 begins (Begins txn) = true
 begins other = false
@@ -50,6 +52,7 @@ request_names tables (request.Update table row) = has_name tables table
 request_names tables (request.Delete table key) = has_name tables table
 request_names tables other = false
 
+-- whether an event asks for a row of one of these tables
 unfoldable pub event_names : List (List ℕ) → Event → Bool
 event_names tables (event.Client asked) = request_names tables asked
 event_names tables other = false
@@ -62,6 +65,7 @@ has_lock_on tables client (e ∷ past) =
     (if begins (effect e.reply) then false else (takes_lock (effect e.reply) && event_names tables e.event) || has_lock_on tables client past)
     else has_lock_on tables client past
 
+-- whether a record writes to one of these tables
 unfoldable pub is_on : List (List ℕ) → Body → Bool
 is_on tables (body.Write table key before after) = has_name tables table
 is_on tables (body.Undo undoes table key before after) = has_name tables table
@@ -72,6 +76,7 @@ abbrev pub wrote_on : List (List ℕ) → ℕ → List Rec → Bool
 wrote_on tables txn [] = false
 wrote_on tables txn (r ∷ past) = ((r.txn == txn) && is_on tables r.body) || wrote_on tables txn past
 
+-- whether a transformation is a vertical split
 abbrev pub is_split : Spec → Bool
 is_split (Split table by dep rest dependent) = true
 is_split (Join left right on_left on_right into) = false
@@ -84,6 +89,7 @@ conflicts o past s l =
     if is_blocking s.strategy then has_lock_on (sources_of s.spec) l.client past
     else is_split s.spec && wrote_on (sources_of s.spec) l.txn (log_of o past)
 
+-- the lesser of a transaction and another, if there is another
 abbrev pub lesser : ℕ → Option ℕ → ℕ
 lesser txn None = txn
 lesser txn (Some other) = min txn other
@@ -106,10 +112,12 @@ switch_unless o past None = reply.Switched (next_lsn o past)
 abbrev pub tail_reply : Opening → List Entry → Started → ℕ → ℕ → Reply
 tail_reply o past s position end = if nat_lt 256 (end - position) then reply.Unread position end else switch_unless o past (conflict o past s)
 
+-- an attempt to switch the transformation that has started, if one has
 abbrev pub attempt_reply : Opening → List Entry → Option Started → Reply
 attempt_reply o past None = reply.NoTransform
 attempt_reply o past (Some s) = tail_reply o past s (position o past) (length (log_of o past))
 
+-- an attempt is answered by the phase: only a scan that has ended lets it go on
 abbrev pub switch_in : Opening → List Entry → Phase → Reply
 switch_in o past Idle = reply.NoTransform
 switch_in o past Scanning = reply.NotScanned

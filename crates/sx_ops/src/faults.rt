@@ -1,6 +1,7 @@
 // Why a horizontal split doesn't fit a catalog.
 ghost use Rattle.std.specs.Prelude.{◌≡◌, ◌+◌, ◌<◌, ◌^◌, length};
 ghost use Rattle.sx_ops.specs.Checks.{Refuses, column_fault, is_declared, is_of_kind, fits_column, types_fault, names_fault};
+ghost use Rattle.sx_lists.specs.Answers.{unless};
 ghost use Rattle.sx_values.specs.Names.{has_name};
 ghost use Rattle.sx_values.specs.SchemaFaults.{names_of};
 
@@ -52,7 +53,8 @@ fn has_name(columns: &[Column], name: &Name) -> bool
 // Compares the kind of each test's constant with that of its column. The first test has this place.
 pub(crate) fn check_types(place: u64, columns: &[Column], tests: &[Test]) -> Result<(), SpecFault>
     requires { place + length tests.now < 2 ^ 64 }
-    ensures { Refuses (types_fault place columns.now tests.now) result }
+    ensures exact { result ≡ unless (types_fault place columns.now tests.now) tt }
+    ensures fault { Refuses (types_fault place columns.now tests.now) result }
 {
     let [test, tests @ ..] = tests else {
         return Ok(());

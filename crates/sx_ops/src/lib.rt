@@ -5,6 +5,8 @@ mod copies;
 mod faults;
 mod part;
 mod spec;
+#[cfg(test)]
+mod tests;
 
 pub use spec::{Cmp, Spec, SpecFault, Target, Test};
 use sx_lists::List;

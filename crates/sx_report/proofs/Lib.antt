@@ -1,3 +1,4 @@
 mod LineLaws
+mod RangeLaws
 mod ReportLaws
 mod TableLaws

@@ -3,6 +3,7 @@
 
 mod end;
 mod entry;
+mod laws;
 mod record;
 mod report;
 mod tables;
@@ -11,6 +12,7 @@ mod tests;
 mod words;
 
 pub use end::ReportEnd;
+pub use laws::{entries_of_a_range_are_numbered, records_of_a_range_are_numbered};
 pub use record::print_log_line;
 pub use report::{print_head, print_report};
 pub use tables::print_tables;

@@ -6,7 +6,7 @@ ghost use Rattle.sx_report.specs.TableLines.{AreRelations, row_line, row_lines, 
 
 use crate::words::put;
 use std::alloc::{AllocError, Global};
-use sx_heap::{Cursor, Seen, Table, Tables};
+use sx_heap::{Table, Tables};
 use sx_lists::List;
 use sx_text::put_record;
 use sx_values::{Name, Row};
@@ -59,39 +59,16 @@ fn put_table(alloc: Global, out: &mut Vec<u8>, name: &Name, table: &Table) -> Re
     put(out, b"table ")?;
     put(out, name.as_bytes())?;
     put(out, b"\n")?;
-    put_rows_of(alloc, out, name, table)
-}
-
-// How many rows of a table are copied at a time.
-const ROWS_A_TURN: u64 = 64;
-
-// Puts a line for each row of a table, in key order.
-fn put_rows_of(
-    alloc: Global,
-    out: &mut Vec<u8>,
-    name: &Name,
-    table: &Table,
-) -> Result<(), AllocError>
-    ensures text { OnOk result (out.new.items ≡ out.old.items ++ row_lines name.now (map (λ seen. seen.row) table.now.rows)) }
-    ensures relation { OnOk result (IsRelation table.now) }
-{
-    let mut cursor = Cursor::start();
-    loop {
-        let walked = table.walk(alloc, cursor, ROWS_A_TURN)?;
-        put_rows(alloc, out, name, walked.seen.as_slice())?;
-        if walked.over {
-            return Ok(());
-        }
-        cursor = walked.next;
-    }
+    let rows = table.rows(alloc)?;
+    put_rows(alloc, out, name, rows.as_slice())
 }
 
 // Puts a line for each row.
-fn put_rows(alloc: Global, out: &mut Vec<u8>, name: &Name, rows: &[Seen]) -> Result<(), AllocError>
-    ensures { OnOk result (out.new.items ≡ out.old.items ++ row_lines name.now (map (λ seen. seen.row) rows.now)) }
+fn put_rows(alloc: Global, out: &mut Vec<u8>, name: &Name, rows: &[&Row]) -> Result<(), AllocError>
+    ensures { OnOk result (out.new.items ≡ out.old.items ++ row_lines name.now (map (λ row. row.now) rows.now)) }
 {
-    for seen in rows {
-        put_row(alloc, out, name, &seen.row)?;
+    for row in rows {
+        put_row(alloc, out, name, row)?;
     }
     Ok(())
 }

@@ -1,10 +1,13 @@
-// Lines of the log and of the end whose texts are known beforehand.
+// Pieces of reports whose texts are known beforehand.
 use crate::end::put_end;
-use crate::{ReportEnd, print_log_line};
+use crate::{ReportEnd, print_head, print_log_line, print_tables};
 use std::alloc::Global;
 use std::process::Abort;
 use std::test::Fail;
+use sx_core::Core;
+use sx_lists::Copied;
 use sx_log::{Body, Rec};
+use sx_script::{Script, parse_script};
 use sx_values::{Key, Name, Row, Text, Value};
 
 fn name(alloc: Global) -> Result<Name, Fail> {
@@ -112,5 +115,65 @@ fn ends(rt: HostRuntime) -> Result<(), Fail> {
         put_end(alloc, &mut out, &end)?;
         assert_eq!(rt; out.as_slice(), line);
     }
+    Ok(())
+}
+
+#[test]
+fn an_end_is_copied(rt: HostRuntime) -> Result<(), Fail> {
+    let alloc = rt.alloc();
+    let end = ReportEnd::Violated {
+        first: key(alloc, 3)?,
+        second: key(alloc, 4)?,
+    };
+    let mut out = Vec::new(alloc);
+    put_end(alloc, &mut out, &end.copy(alloc)?)?;
+    assert_eq!(rt; out.as_slice(), b"end violated 3,4\n".as_slice());
+    Ok(())
+}
+
+// The machine with a script's rows, before its first event.
+fn loaded(alloc: Global, script: &Script) -> Result<Core, Fail> {
+    let _lines = script.lines();
+    let (catalog, loads) = (script.catalog(alloc)?, script.loads(alloc)?);
+    Ok(Core::make(alloc, catalog, loads)?)
+}
+
+const TWO_ROWS: &[u8] = b"# Rows out of order.
+table t id:int* q:int?
+row t 3,20
+
+row t 2,NULL";
+
+#[test]
+fn a_head_before_the_first_event(rt: HostRuntime) -> Result<(), Fail> {
+    let alloc = rt.alloc();
+    let script = parse_script(alloc, TWO_ROWS)?;
+    let core = loaded(alloc, &script)?;
+    let head = print_head(alloc, &script, &core)?;
+    assert_eq!(rt;
+        head.as_slice(),
+        b"script
+table t id:int* q:int?
+row t 3,20
+row t 2,NULL
+journal
+log
+1 0 put t 3,20
+2 0 put t 2,NULL
+"
+            .as_slice()
+    );
+    Ok(())
+}
+
+#[test]
+fn rows_stand_in_key_order(rt: HostRuntime) -> Result<(), Fail> {
+    let alloc = rt.alloc();
+    let core = loaded(alloc, &parse_script(alloc, TWO_ROWS)?)?;
+    let text = print_tables(alloc, core.tables())?;
+    assert_eq!(rt;
+        text.as_slice(),
+        b"table t\nrow t 2,NULL\nrow t 3,20\n".as_slice()
+    );
     Ok(())
 }

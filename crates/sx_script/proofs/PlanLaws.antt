@@ -7,7 +7,8 @@ use Rattle.std.proofs.lemmas.Bool.Decides.{nat_tests}
 use Rattle.sx_values.specs.declared.value.Value.{Value}
 use Rattle.sx_values.specs.declared.catalog.Declared.{Declared}
 use Rattle.sx_values.specs.Names.{same_name}
-use Rattle.sx_values.specs.Values.{values_eq, values_cmp}
+use Rattle.std.specs.Cmp.Lexicographic.{pointwise, lists_ties}
+use Rattle.sx_values.specs.Values.{value_cmp, value_eq, values_eq, values_cmp}
 use Rattle.sx_values.specs.Layouts.{Layout, key_of, row_fault}
 use Rattle.sx_values.specs.Catalogs.{schema_of, declared_as}
 use Rattle.sx_values.proofs.KeyLaws.{same_name_tells, same_name-refl}
@@ -288,3 +289,19 @@ was_there inserted false e f = absurd (cc)
 pub was_new : (inserted there : Bool) → inserted ≡ not there → inserted ≡ true → there ≡ false
 was_new inserted true e f = absurd (cc)
 was_new inserted false e f = refl
+
+-- keys that are equal are those that tie
+same_key_eq : (key other : List Value) → pointwise value_eq key other ≡ values_eq key other
+same_key_eq key other = lists_ties {E = value_eq} value_cmp (λ v w. refl) key other
+
+-- a key that equals one of these is among them
+pub among_eq : (keys : List (List Value)) (key : List Value) → list_any (pointwise value_eq key) keys ≡ is_among keys key
+among_eq [] key = refl
+among_eq (k ∷ keys) key = λ i. same_key_eq key k i || among_eq keys key i
+
+-- with one key more, those equal to it are among the keys too
+pub among_more : (keys after : List (List Value)) (key : List Value)
+    → ((q : List Value) → list_any (pointwise value_eq q) after ≡ cond (pointwise value_eq key q) true (list_any (pointwise value_eq q) keys))
+    → (q : List Value) → is_among after q ≡ cond (values_eq key q) true (is_among keys q)
+among_more keys after key updates q =
+    sym (among_eq after q) ∙ updates q ∙ (λ i. cond (same_key_eq key q i) true (among_eq keys q i))

@@ -1,18 +1,25 @@
 -- What every script's plan is.
 use Rattle.std.proofs.Common.{◌≡◌, ◌≤◌, ◌<◌, ◌+◌, ◌++◌, ℕ, suc, Bool, true, false, not, cond, nat_le, List, [], ◌∷◌, length, filter, Option, Some, None, option_map, option_and_then, refl, sym, ap, ◌∙◌, subst, arith}
-use Rattle.std.specs.List.{list_all, filter_map, cons_option, AllByRecursion}
+use Rattle.std.specs.List.{list_all, filter_map, cons_option, All, AllByRecursion}
 use Rattle.std.proofs.lemmas.Bool.Decides.{nat_tests}
+use Rattle.std.proofs.lemmas.Grind.{common_steps}
 use Rattle.std.proofs.lemmas.List.{length-append}
+use Rattle.std.proofs.lemmas.List.Elements.{All-from_recursion}
 use Rattle.sx_values.specs.Names.{same_name}
 use Rattle.sx_values.specs.Texts.{is_printable}
 use Rattle.sx_values.specs.declared.catalog.Declared.{Declared}
 use Rattle.sx_log.specs.declared.record.Load.{Load}
+use Rattle.sx_ops.specs.declared.spec.Spec.{Spec}
+use Rattle.sx_ops.specs.declared.spec.Spec.TheVariants.{Join, Split, Part, Union}
+use Rattle.sx_ops.specs.Checks.{IsPart}
 use Rattle.sx_model.specs.Schedules.{Plan}
 use Rattle.sx_model.specs.Loads.{AreLoads, loaded_into}
 use Rattle.sx_script.specs.declared.line.Line.{Line}
+use Rattle.sx_script.specs.declared.line.Line.TheVariants as line
 use Rattle.sx_script.specs.Lines.{text_lines, is_passed_over, when}
-use Rattle.sx_script.specs.Plans.{plan_of, load_of, asked_of, is_open}
-use Rattle.sx_script.specs.Reading.{item_in, line_in, lines_read, script_read}
+use Rattle.sx_script.specs.Plans.{plan_of, load_of, asked_of, has_one_test, is_open, accepts}
+use Rattle.sx_script.specs.Printing.{HasText}
+use Rattle.sx_script.specs.Reading.{item_in, line_in, line_of, lines_read, script_read}
 use Rattle.sx_script.specs.Scripts.{IsRead, IsScript}
 use Rattle.sx_script.specs.Sound.{IsSound, IsRunnable}
 
@@ -80,3 +87,65 @@ runnable lines few s =
       own = s.own;
       few = omega arith;
     }
+
+-- ---- lines have texts
+
+one_test_part : (spec : Spec) → has_one_test spec ≡ true → IsPart spec
+one_test_part (Part table tests passing failing) e = tt
+one_test_part (Join left right on_left on_right into) e = absurd (cc)
+one_test_part (Split table by dep rest dependent) e = absurd (cc)
+one_test_part (Union left right into) e = absurd (cc)
+
+accepted_text : (plan : Plan) (l : Line) → accepts plan l ≡ true → HasText l
+accepted_text plan (line.Table name schema) e = tt
+accepted_text plan (line.Index table columns) e = tt
+accepted_text plan (line.Row table row) e = tt
+accepted_text plan (line.Change spec) e = let one : has_one_test spec ≡ true = grind (arith, common_steps) in one_test_part spec one
+accepted_text plan (line.Strategy strategy) e = tt
+accepted_text plan (line.Retries n) e = tt
+accepted_text plan (line.Client n what) e = tt
+accepted_text plan (line.Pace pace) e = tt
+
+item_texts : (plan : Plan) (text : List ℕ) (item : List Line) → item_in plan text ≡ Some item → AllByRecursion HasText item
+unfolding item_in line_in
+item_texts plan text item e = by (list_all is_printable text) (is_passed_over text) (line_of plan.catalog text) e
+  where
+    one : (l : Line) (t : Bool) → accepts plan l ≡ t → option_map (λ shown. shown ∷ []) (when t l) ≡ Some item → AllByRecursion HasText item
+    one l true a f = let s : l ∷ [] ≡ item = cc in subst (AllByRecursion HasText) s (accepted_text plan l a, tt)
+    one l false a f = absurd (cc)
+
+    by : (t u : Bool) (found : Option Line)
+        → cond t (cond u (Some []) (option_map (λ shown. shown ∷ []) (option_and_then (λ shown. when (accepts plan shown) shown) found))) None ≡ Some item → AllByRecursion HasText item
+    by true true found f = let s : [] ≡ item = cc in subst (AllByRecursion HasText) s tt
+    by true false None f = absurd (cc)
+    by true false (Some l) f = one l (accepts plan l) refl f
+    by false u found f = absurd (cc)
+
+texts_append : (xs ys : List Line) → AllByRecursion HasText xs → AllByRecursion HasText ys → AllByRecursion HasText (xs ++ ys)
+texts_append [] ys a b = b
+texts_append (x ∷ xs) ys a b = (a.0, texts_append xs ys a.1 b)
+
+lines_texts : (sofar : List Line) (texts : List (List ℕ)) (lines : List Line) → lines_read sofar texts ≡ Some lines → AllByRecursion HasText lines
+lines_texts sofar [] lines e = by (not (is_open (plan_of sofar))) e
+  where
+    by : (t : Bool) → when t [] ≡ Some lines → AllByRecursion HasText lines
+    by true f = let s : [] ≡ lines = cc in subst (AllByRecursion HasText) s tt
+    by false f = absurd (cc)
+lines_texts sofar (text ∷ texts) lines e = by (item_in (plan_of sofar) text) refl e (λ item more f. lines_texts (sofar ++ item) texts more f)
+  where
+    joined : (item : List Line) (found : Option (List Line)) → AllByRecursion HasText item → ((more : List Line) → found ≡ Some more → AllByRecursion HasText more) → option_map (λ more. item ++ more) found ≡ Some lines → AllByRecursion HasText lines
+    joined item None a go f = absurd (cc)
+    joined item (Some more) a go f = let s : item ++ more ≡ lines = cc in subst (AllByRecursion HasText) s (texts_append item more a (go more refl))
+
+    by : (found : Option (List Line)) → item_in (plan_of sofar) text ≡ found → option_and_then (λ item. option_map (λ more. item ++ more) (lines_read (sofar ++ item) texts)) found ≡ Some lines
+        → ((item more : List Line) → lines_read (sofar ++ item) texts ≡ Some more → AllByRecursion HasText more) → AllByRecursion HasText lines
+    by None d f go = absurd (cc)
+    by (Some item) d f go = joined item (lines_read (sofar ++ item) texts) (item_texts (plan_of sofar) text item d) (λ more g. go item more g) f
+
+-- each line that was read has a text
+pub script_texts : (bytes : List ℕ) (lines : List Line) → script_read bytes ≡ Some lines → All HasText lines
+script_texts bytes lines e = by (nat_le (length (text_lines bytes)) 20000) e
+  where
+    by : (t : Bool) → cond t (lines_read [] (text_lines bytes)) None ≡ Some lines → All HasText lines
+    by true f = All-from_recursion HasText lines (lines_texts [] (text_lines bytes) lines f)
+    by false f = absurd (cc)

@@ -1,5 +1,5 @@
 -- The text of a script.
-use Rattle.std.specs.Prelude.{◌++◌, ◌+◌, ◌==◌, Bool, true, false, ℕ, List, [], ◌∷◌, codes}
+use Rattle.std.specs.Prelude.{◌++◌, ◌+◌, ◌==◌, ⊤, Bool, true, false, ℕ, List, [], ◌∷◌, codes}
 use Rattle.std.specs.List.{flat_map, list_any}
 use Rattle.std.specs.Fmt.{decimal}
 use Rattle.sx_values.specs.declared.value.Value.{Value}
@@ -8,6 +8,7 @@ use Rattle.sx_values.specs.declared.schema.Kind.TheVariants as kind
 use Rattle.sx_values.specs.declared.schema.Column.{Column}
 use Rattle.sx_values.specs.Layouts.{Layout}
 use Rattle.sx_ops.specs.declared.spec.Spec.{Spec}
+use Rattle.sx_ops.specs.Checks.{IsPart}
 use Rattle.sx_sync.specs.declared.Strategy.{Strategy}
 use Rattle.sx_sync.specs.declared.Strategy.TheVariants as strategy
 use Rattle.sx_journal.specs.declared.entry.Request.{Request}
@@ -78,6 +79,11 @@ pace_text pace.Check = codes "check"
 pace_text pace.Switch = codes "switch"
 pace_text (pace.Scan n) = codes "scan " ++ decimal n
 pace_text (pace.Fetch n) = codes "fetch " ++ decimal n
+
+-- a line that has a text: of the transformations only a horizontal split has one
+abbrev pub HasText : Line → Type 0
+HasText (line.Change spec) = IsPart spec
+HasText other = ⊤
 
 -- the one text of a line, without its line feed
 abbrev pub line_text : Line → List ℕ

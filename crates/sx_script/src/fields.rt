@@ -1,6 +1,6 @@
 // What the parts of a line show.
 ghost use Rattle.std.specs.Prelude.{◌≡◌, ◌++◌, OnOk, IfOk, not, is_some};
-ghost use Rattle.sx_ops.specs.Checks.{IsShaped, spec_fault};
+ghost use Rattle.sx_ops.specs.Checks.{IsPart, IsShaped, spec_fault};
 ghost use Rattle.sx_script.specs.Fields.{row_shown, key_shown, spec_shown};
 ghost use Rattle.sx_lang.specs.Spelling.{spec_text};
 
@@ -78,8 +78,9 @@ pub(crate) fn fits(alloc: Global, catalog: &Catalog, spec: &Spec) -> Result<bool
     }
 }
 
-// Puts the text of a transformation at the end.
+// Puts the text of a horizontal split at the end.
 pub(crate) fn put_spec(alloc: Global, out: &mut Vec<u8>, spec: &Spec) -> Result<(), AllocError>
+    requires { IsPart spec.now }
     ensures { OnOk result (out.new.items ≡ out.old.items ++ spec_text spec.now) }
 {
     let text = print_spec(alloc, spec)?;

@@ -13,7 +13,7 @@ use crate::forms::{asks, line_of};
 use crate::text::{are_printable, is_passed_over};
 use crate::{Line, Script};
 use std::alloc::{AllocError, Global};
-use std::collections::BTreeSet;
+use std::collections::HashSet;
 use std::marker::Model;
 use sx_journal::{Request, What};
 use sx_lists::{Copied, List};
@@ -26,7 +26,7 @@ pub(crate) struct Parser {
     lines: Vec<Line>,
     catalog: Catalog,
     // The keys of the loaded rows.
-    keys: BTreeSet<Key>,
+    keys: HashSet<Key>,
     is_changed: bool,
     is_started: bool,
     is_open: bool,
@@ -52,7 +52,7 @@ impl Parser {
         Parser {
             lines: Vec::new(alloc),
             catalog: Catalog::new(alloc),
-            keys: BTreeSet::new(alloc),
+            keys: HashSet::new(alloc),
             is_changed: false,
             is_started: false,
             is_open: false,

@@ -1,8 +1,10 @@
 // The text of a script.
 ghost use Rattle.std.specs.Prelude.{◌≡◌, ◌++◌, ◌∷◌, ◌+◌, ◌<◌, ◌^◌, [], Some, OnOk, IfOk, length};
 ghost use Rattle.std.specs.Fmt.{decimal};
+ghost use Rattle.std.specs.List.{All};
+ghost use Rattle.sx_ops.specs.Checks.{IsPart};
 ghost use Rattle.sx_script.specs.Reading.{script_read};
-ghost use Rattle.sx_script.specs.Printing.{column_text, columns_text, is_key_place, kind_text, mark_text, line_text, named_text, names_text, request_text, ended, script_text};
+ghost use Rattle.sx_script.specs.Printing.{column_text, columns_text, is_key_place, HasText, kind_text, mark_text, line_text, named_text, names_text, request_text, ended, script_text};
 
 use crate::fields::put_spec;
 use crate::{Line, PropLine, Script};
@@ -33,6 +35,7 @@ pub fn put_script(alloc: Global, out: &mut Vec<u8>, script: &Script) -> Result<(
 }
 
 fn put_lines(alloc: Global, out: &mut Vec<u8>, lines: &[Line]) -> Result<(), AllocError>
+    requires { All HasText lines.now }
     ensures { OnOk result (out.new.items ≡ out.old.items ++ script_text lines.now) }
 {
     for line in lines {
@@ -42,6 +45,7 @@ fn put_lines(alloc: Global, out: &mut Vec<u8>, lines: &[Line]) -> Result<(), All
 }
 
 fn put_ended(alloc: Global, out: &mut Vec<u8>, line: &Line) -> Result<(), AllocError>
+    requires { HasText line.now }
     ensures { OnOk result (out.new.items ≡ out.old.items ++ ended line.now) }
 {
     put_line(alloc, out, line)?;
@@ -50,6 +54,7 @@ fn put_ended(alloc: Global, out: &mut Vec<u8>, line: &Line) -> Result<(), AllocE
 
 /// Puts the text of a line at the end, without its line feed.
 pub fn put_line(alloc: Global, out: &mut Vec<u8>, line: &Line) -> Result<(), AllocError>
+    requires { HasText line.now }
     ensures { OnOk result (out.new.items ≡ out.old.items ++ line_text line.now) }
 {
     match line {
@@ -157,6 +162,7 @@ fn put_named(
 }
 
 fn put_change(alloc: Global, out: &mut Vec<u8>, spec: &Spec) -> Result<(), AllocError>
+    requires { IsPart spec.now }
     ensures { OnOk result (out.new.items ≡ out.old.items ++ line_text (Line.Change spec.now)) }
 {
     put(out, b"change ")?;

@@ -1,5 +1,6 @@
 // Scripts, and the bytes that they are read from.
 ghost use Rattle.std.specs.Prelude.{◌≡◌, ◌≤◌, ◌==◌, not, true, if◌then◌else◌, Err, Ok, Some, IfOk, length, map};
+ghost use Rattle.std.specs.List.{All};
 ghost use Rattle.std.specs.Option.{option_copied};
 ghost use Rattle.sx_lists.specs.Places.{at_place};
 ghost use Rattle.sx_script.specs.Plans.{plan_of, is_open};
@@ -7,7 +8,7 @@ ghost use Rattle.sx_script.specs.Reading.{script_read};
 ghost use Rattle.sx_script.specs.Scripts.{Reads, IsScript, IsRead};
 ghost use Rattle.sx_script.specs.Sound.{IsRunnable};
 ghost use Rattle.sx_script.specs.Asking.{as_line};
-ghost use Rattle.sx_script.specs.Printing.{script_text};
+ghost use Rattle.sx_script.specs.Printing.{HasText, script_text};
 
 use crate::parser::Parser;
 use crate::plan::{Asked, asked_of, change_of, loads_of};
@@ -54,6 +55,7 @@ impl Script {
         ensures is_read { IsRead self.now }
         ensures runs { IsRunnable (plan_of self.now) }
         ensures few { length self.now ≤ 20000 }
+        ensures texts { All HasText self.now }
         ensures again { script_read (script_text self.now) ≡ Some self.now }
     {
         self.lines.as_slice()

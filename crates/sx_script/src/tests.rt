@@ -40,9 +40,14 @@ fn a_copy_is_put_behind_other_bytes(rt: HostRuntime) -> Result<(), Fail> {
     Ok(())
 }
 
-// Puts a line's text and a line feed at the end.
+// Puts the text of a line that has one and a line feed at the end.
 fn put_ended(alloc: Global, out: &mut Vec<u8>, line: &Line) -> Result<(), AllocError> {
-    put_line(alloc, out, &line.copy(alloc)?)?;
+    match &line.copy(alloc)? {
+        Line::Change {
+            spec: Spec::Join { .. } | Spec::Split { .. } | Spec::Union { .. },
+        } => {}
+        line => put_line(alloc, out, line)?,
+    }
     out.extend_from_slice(b"\n")
 }
 
@@ -231,4 +236,14 @@ fn faulty_scripts_are_refused(rt: HostRuntime) {
         let fault = parse_script(rt.alloc(), text.as_bytes()).err();
         assert_eq!(rt; fault, Some(LATER), "in {text:?}");
     }
+}
+
+#[test]
+fn faults_are_copied(rt: HostRuntime) -> Result<(), Fail> {
+    let alloc = rt.alloc();
+    for fault in [ScriptFault::Memory, LATER] {
+        assert_eq!(rt; fault.copy(alloc)?, fault);
+    }
+    assert_eq!(rt; ScriptCause::Key.copy(alloc)?, ScriptCause::Key);
+    Ok(())
 }

@@ -51,3 +51,7 @@ are_values values = list_all is_value values
 pub record IsPlain (field : List ℕ) : Type 0 where
   pub unquoted : needs_quotes default_writer field ≡ false
   pub shown : (length field == 0) ≡ false
+
+-- bytes that begin with others
+abbrev pub BeginsWith : List ℕ → List ℕ → Type 0
+BeginsWith front bytes = (more : List ℕ) × (bytes ≡ front ++ more)

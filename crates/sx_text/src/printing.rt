@@ -4,16 +4,13 @@ ghost use Rattle.std.specs.List.{list_all};
 ghost use Rattle.csv.specs.Records.{fields_of, partial_of};
 ghost use Rattle.csv.specs.Writing.{default_writer, needs_byte, needs_quotes, row_text};
 ghost use Rattle.sx_values.specs.Texts.{is_printable};
-ghost use Rattle.sx_text.specs.Records.{IsPlain, are_values, field_of, is_value, record_of, record_text};
+ghost use Rattle.sx_text.specs.Records.{BeginsWith, IsPlain, are_values, field_of, is_value, record_of, record_text};
 
 use csv::{ByteRecord, WriterBuilder};
 use itoa::Buffer;
 use std::alloc::{AllocError, Global};
 use sx_lists::List;
 use sx_values::{Key, Row, Value};
-
-// Room for the records of most rows, which saves growing.
-const USUAL_BYTES: usize = 32;
 
 /// The CSV record that shows a row, without a line's end.
 pub fn text_of(alloc: Global, row: &Row) -> Result<List<u8>, AllocError>
@@ -39,8 +36,21 @@ pub fn put_record(alloc: Global, out: &mut Vec<u8>, values: &[Value]) -> Result<
     ensures values { OnOk result (IsTrue (are_values values.now)) }
     ensures err { OnErr result (out.new.items ≡ out.old.items) }
 {
-    let text = record_in(alloc, values)?;
-    out.extend_from_slice(text.as_slice())
+    let Some((first, rest)) = values.split_first() else {
+        return put_quoted(alloc, out, values);
+    };
+    let start = out.len();
+    match put_plain(out, first, rest) {
+        Ok(true) => Ok(()),
+        Ok(false) => {
+            out.truncate(start);
+            put_quoted(alloc, out, values)
+        }
+        Err(error) => {
+            out.truncate(start);
+            Err(error)
+        }
+    }
 }
 
 #[tactic(auto, using(crate::proofs::ReadBackLaws::printable_record_text))]
@@ -49,52 +59,44 @@ fn text_of_values(alloc: Global, values: &[Value]) -> Result<List<u8>, AllocErro
     ensures printable { IfOk result (λ text. IsTrue (list_all is_printable text)) }
     ensures values { OnOk result (IsTrue (are_values values.now)) }
 {
-    let text = record_in(alloc, values)?;
+    let mut text = Vec::new(alloc);
+    put_record(alloc, &mut text, values)?;
     Ok(List::from_vec(text))
 }
 
-// The record that shows values. csv's writer, which takes a buffer for each record, is asked only where a field calls for quotes.
-fn record_in(alloc: Global, values: &[Value]) -> Result<Vec<u8>, AllocError>
-    ensures text { IfOk result (λ text. text.items ≡ record_text values.now) }
+// Puts the record that shows values at the end, as csv's writer writes it, which takes a buffer for each record.
+fn put_quoted(alloc: Global, out: &mut Vec<u8>, values: &[Value]) -> Result<(), AllocError>
+    ensures ok { OnOk result (out.new.items ≡ out.old.items ++ record_text values.now) }
     ensures values { OnOk result (IsTrue (are_values values.now)) }
-{
-    if let Some((first, rest)) = values.split_first() {
-        if let Some(text) = plain_record(alloc, first, rest)? {
-            return Ok(text);
-        }
-    }
-    quoted_record(alloc, values)
-}
-
-// The record that shows values, as csv's writer writes it.
-fn quoted_record(alloc: Global, values: &[Value]) -> Result<Vec<u8>, AllocError>
-    ensures text { IfOk result (λ text. text.items ≡ record_text values.now) }
-    ensures values { OnOk result (IsTrue (are_values values.now)) }
+    ensures err { OnErr result (out.new.items ≡ out.old.items) }
 {
     let record = record_of_values(alloc, values)?;
-    record_of(alloc, &record)
+    let text = record_of(alloc, &record)?;
+    out.extend_from_slice(text.as_slice())
 }
 
-// The record that shows values, if none of its fields calls for quotes: the fields with commas between them.
-fn plain_record(alloc: Global, first: &Value, rest: &[Value]) -> Result<Option<Vec<u8>>, AllocError>
-    ensures text { IfOk result (λ found. IfSome found (λ text. text.items ≡ record_text (first.now ∷ rest.now))) }
-    ensures values { IfOk result (λ found. OnSome found (IsTrue (are_values (first.now ∷ rest.now)))) }
+// Puts the record that shows values at the end, and answers whether it stands there as csv's writer would write it:
+// the fields with commas between them, of which none calls for quotes. Else a part of it stands there.
+fn put_plain(out: &mut Vec<u8>, first: &Value, rest: &[Value]) -> Result<bool, AllocError>
+    ensures front { BeginsWith out.old.items out.new.items }
+    ensures text { IfOk result (λ plain. IsTrue plain → out.new.items ≡ out.old.items ++ record_text (first.now ∷ rest.now)) }
+    ensures values { IfOk result (λ plain. IsTrue plain → IsTrue (are_values (first.now ∷ rest.now))) }
 {
-    let mut text = Vec::with_capacity(alloc, USUAL_BYTES)?;
-    if !put_field(&mut text, first)? {
-        return Ok(None);
+    if !put_field(out, first)? {
+        return Ok(false);
     }
     for value in rest {
-        text.push(b',')?;
-        if !put_field(&mut text, value)? {
-            return Ok(None);
+        out.push(b',')?;
+        if !put_field(out, value)? {
+            return Ok(false);
         }
     }
-    Ok(Some(text))
+    Ok(true)
 }
 
 // Puts the field that shows a value at the end, and answers whether it stands there as csv's writer would write it.
 fn put_field(text: &mut Vec<u8>, value: &Value) -> Result<bool, AllocError>
+    ensures front { BeginsWith text.old.items text.new.items }
     ensures text { OnOk result (text.new.items ≡ text.old.items ++ field_of value.now) }
     ensures plain { IfOk result (λ plain. IsTrue plain → IsPlain (field_of value.now)) }
     ensures value { OnOk result (IsTrue (is_value value.now)) }
@@ -111,6 +113,7 @@ fn put_field(text: &mut Vec<u8>, value: &Value) -> Result<bool, AllocError>
 
 // Puts the bytes of a field at the end, and answers whether they need no quotes.
 fn put_bytes(text: &mut Vec<u8>, bytes: &[u8]) -> Result<bool, AllocError>
+    ensures front { BeginsWith text.old.items text.new.items }
     ensures text { OnOk result (text.new.items ≡ text.old.items ++ bytes.now) }
     ensures plain { IfOk result (λ plain. IsTrue plain → IsPlain bytes.now) }
 {

@@ -2,6 +2,7 @@
 use crate::*;
 use std::alloc::Global;
 use std::test::Fail;
+use sx_lists::Copied;
 use sx_values::{Column, Columns, Kind, Name, Numbers, Row, Schema, Text, Value};
 
 // An Int column `id`, which is the key, and a Text column `note`, which may be Null.
@@ -110,4 +111,16 @@ fn words_are_read(rt: HostRuntime) {
     ] {
         assert_eq!(rt; number_of(bytes), number);
     }
+}
+
+#[test]
+fn faults_are_copied(rt: HostRuntime) -> Result<(), Fail> {
+    for fault in [
+        FieldFault::Memory,
+        FieldFault::Width,
+        FieldFault::Value { column: 2 },
+    ] {
+        assert_eq!(rt; fault.copy(rt.alloc())?, fault);
+    }
+    Ok(())
 }

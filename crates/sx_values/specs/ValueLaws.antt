@@ -1,15 +1,15 @@
--- The order of values is a total order: it compares ranks, then numbers, then texts.
-use Rattle.std.specs.Prelude.{◌≡◌, ℕ, ℤ, List, [], Some, refl, pos}
-use Rattle.std.proofs.Common.{ap}
-use Rattle.std.specs.Cmp.{IsTotalOrder, IsEquivalence, IsPartialEquivalence, IsPartialOrder, partial_equiv_from_equiv, partial_order_from_total, total}
-use Rattle.std.specs.Ordering.{int_cmp, nat_cmp, on, then_cmp, ordering_then}
+-- The order of values is a total order: it compares ranks, then numbers, then texts. Values that tie are one value.
+use Rattle.std.specs.Prelude.{◌≡◌, ℕ, ℤ, List, [], ◌∷◌, IsTrue, Some, true, refl, pos}
+use Rattle.std.proofs.Common.{ap, sym, ◌∙◌, true≢false}
+use Rattle.std.specs.Cmp.{IsTotalOrder, IsEquivalence, IsPartialEquivalence, IsPartialOrder, partial_equiv_from_equiv, partial_order_from_total, signed_Decides, total, unsigned_Decides, unsigned_tied}
+use Rattle.std.specs.Ordering.{int_cmp, is_eq, nat_cmp, on, then_cmp, ordering_then}
 use Rattle.std.specs.Cmp.Lexicographic.{slice_cmp}
 use Rattle.std.proofs.lemmas.Cmp.{nat_cmp_total, int_cmp_total, nat_list_cmp_total, on_total, then_total, eq_by_cmp_equiv}
 use Rattle.std.specs.declared.cmp.Ordering.{Ordering}
 use Rattle.std.specs.declared.cmp.Ordering.TheVariants.{Less, Equal, Greater}
 use Rattle.sx_values.specs.declared.value.Value.{Value}
 use Rattle.sx_values.specs.declared.value.Value.TheVariants.{Null, Int, Text}
-use Rattle.sx_values.specs.Values.{value_cmp, value_eq, value_partial_cmp}
+use Rattle.sx_values.specs.Values.{value_cmp, value_eq, value_fed, value_partial_cmp}
 
 abbrev rank : Value → ℕ
 rank Null = 0
@@ -60,3 +60,51 @@ value_eq_partial = partial_equiv_from_equiv value_eq_equivalence
 
 pub value_cmp_partial : IsPartialOrder value_eq value_partial_cmp
 value_cmp_partial = partial_order_from_total value_cmp_total
+
+-- a tie of two answers in a row is a tie of each
+tied_first : (r s : Ordering) → ordering_then r s ≡ Equal → r ≡ Equal
+tied_first Less s e = e
+tied_first Equal s e = refl
+tied_first Greater s e = e
+
+tied_rest : (r s : Ordering) → ordering_then r s ≡ Equal → s ≡ Equal
+tied_rest Less s e = absurd (true≢false (ap is_eq (sym e)))
+tied_rest Equal s e = e
+tied_rest Greater s e = absurd (true≢false (ap is_eq (sym e)))
+
+-- lists tie only where they are equal, if items do
+pub same_from_ties : {T : Type 0} (R : T → T → Ordering) → ((x y : T) → R x y ≡ Equal → x ≡ y) → (xs ys : List T) → slice_cmp R xs ys ≡ Equal → xs ≡ ys
+same_from_ties R each [] [] e = refl
+same_from_ties R each [] (y ∷ ys) e = absurd (true≢false (ap is_eq (sym e)))
+same_from_ties R each (x ∷ xs) [] e = absurd (true≢false (ap is_eq (sym e)))
+same_from_ties R each (x ∷ xs) (y ∷ ys) e =
+    let head = each x y (tied_first (R x y) (slice_cmp R xs ys) e) in
+    let tail = same_from_ties R each xs ys (tied_rest (R x y) (slice_cmp R xs ys) e) in
+    λ i. head i ∷ tail i
+
+nat_tie : (a b : ℕ) → nat_cmp a b ≡ Equal → a ≡ b
+nat_tie a b e = (unsigned_Decides a b).0 (sym (unsigned_tied a b) ∙ ap is_eq e)
+
+int_tie : (a b : ℤ) → int_cmp a b ≡ Equal → a ≡ b
+int_tie a b e = (signed_Decides a b).0 (ap is_eq e)
+
+-- values that tie are one value
+pub value_tie : (v w : Value) → value_cmp v w ≡ Equal → v ≡ w
+value_tie Null Null e = refl
+value_tie Null (Int j) e = absurd (true≢false (ap is_eq (sym e)))
+value_tie Null (Text t) e = absurd (true≢false (ap is_eq (sym e)))
+value_tie (Int i) Null e = absurd (true≢false (ap is_eq (sym e)))
+value_tie (Int i) (Int j) e = ap Int (int_tie i j e)
+value_tie (Int i) (Text t) e = absurd (true≢false (ap is_eq (sym e)))
+value_tie (Text s) Null e = absurd (true≢false (ap is_eq (sym e)))
+value_tie (Text s) (Int j) e = absurd (true≢false (ap is_eq (sym e)))
+value_tie (Text s) (Text t) e = ap Text (same_from_ties nat_cmp nat_tie s t e)
+
+tie_of : (r : Ordering) → is_eq r ≡ true → r ≡ Equal
+tie_of Less e = absurd (true≢false (sym e))
+tie_of Equal e = refl
+tie_of Greater e = absurd (true≢false (sym e))
+
+-- equal values have equal hashes
+pub equal_values_fed : (v w : Value) → IsTrue (value_eq v w) → value_fed v ≡ value_fed w
+equal_values_fed v w e = ap value_fed (value_tie v w (tie_of (value_cmp v w) e))

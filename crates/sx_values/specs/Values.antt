@@ -1,5 +1,7 @@
 -- Values, their order and their kinds.
-use Rattle.std.specs.Prelude.{List, Bool, Option, Some}
+use Rattle.std.specs.Prelude.{List, [], Bool, Option, Some}
+use Rattle.std.specs.Hash as fed
+use Rattle.std.specs.Hash.{HashWrites}
 use Rattle.std.specs.Ordering.{int_cmp, nat_cmp, is_eq}
 use Rattle.std.specs.Cmp.Lexicographic.{slice_cmp}
 use Rattle.std.specs.declared.cmp.Ordering.{Ordering}
@@ -34,3 +36,9 @@ value_partial_cmp v w = Some (value_cmp v w)
 -- whether two lists of values are one, as that order tells
 abbrev pub values_eq : List Value → List Value → Bool
 values_eq vs ws = is_eq (values_cmp vs ws)
+
+-- what a value's hash is made of: its number or its bytes
+abbrev pub value_fed : Value → HashWrites
+value_fed Null = []
+value_fed (Int i) = fed.i64 i
+value_fed (Text t) = fed.slice fed.u8 t

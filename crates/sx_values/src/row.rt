@@ -86,7 +86,7 @@ impl Same for Row {
 }
 
 /// The values of a key, in the order of its key columns.
-#[derive(Debug, Drop, PartialEq, Eq, PartialOrd, Ord)]
+#[derive(Debug, Drop, PartialEq, Eq, Hash, PartialOrd, Ord)]
 pub struct Key {
     values: List<Value>,
 }

@@ -79,6 +79,7 @@ impl Schema {
         requires distinct { IsDistinct nat_eq key }
         ensures schema { IfOk result (λ schema. schema ≡ record { columns = columns; key = key }) }
         ensures fault { RefusesBy (schema_fault columns key) SchemaFault.Memory result }
+        ensures exact { result ≡ unless (schema_fault columns key) (record { columns = columns; key = key }) }
         ensures declarable { IfOk result IsDeclarable }
     {
         let columns = checked_columns(columns, 16)?;
@@ -95,6 +96,7 @@ impl Schema {
         requires distinct { IsDistinct nat_eq key }
         ensures schema { IfOk result (λ schema. schema ≡ record { columns = columns; key = key }) }
         ensures fault { RefusesBy (wide_fault columns key) SchemaFault.Memory result }
+        ensures exact { result ≡ unless (wide_fault columns key) (record { columns = columns; key = key }) }
     {
         let columns = checked_columns(columns, 32)?;
         let key = checked_key(key, 6)?;

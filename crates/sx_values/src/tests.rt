@@ -295,3 +295,17 @@ fn are_short(columns: &[Column]) -> bool
         .iter()
         .all(|column| column.name.as_bytes().len() <= 30)
 }
+
+#[test]
+fn faults_are_copied(rt: HostRuntime) -> Result<(), Fail> {
+    let alloc = rt.alloc();
+    let long = TextFault::TooLong { len: 65 };
+    assert_eq!(rt; long.copy(alloc)?, long);
+    let name = NameFault::BadName;
+    assert_eq!(rt; name.copy(alloc)?, name);
+    let schema = SchemaFault::NullableKey { column: 2 };
+    assert!(rt; matches!(schema.copy(alloc)?, SchemaFault::NullableKey { column: 2 }));
+    let catalog = CatalogFault::Many;
+    assert_eq!(rt; catalog.copy(alloc)?, catalog);
+    Ok(())
+}

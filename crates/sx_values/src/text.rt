@@ -10,7 +10,7 @@ use std::marker::Model;
 use sx_lists::{Copied, List, Same, bytes_of};
 
 /// Up to 64 printable bytes that aren't the word `NULL`.
-#[derive(Debug, Drop, PartialEq, Eq, PartialOrd, Ord)]
+#[derive(Debug, Drop, PartialEq, Eq, Hash, PartialOrd, Ord)]
 pub struct Text {
     bytes: List<u8>,
 }

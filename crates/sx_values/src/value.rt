@@ -1,12 +1,13 @@
-// Values and their order.
+// Values, their order and their hashes.
 ghost use Rattle.std.specs.Prelude.{◌≡◌};
-ghost use Rattle.sx_values.specs.Values.{value_cmp, value_eq, value_partial_cmp};
-ghost use Rattle.sx_values.specs.ValueLaws.{value_eq_partial, value_eq_equivalence, value_cmp_total, value_cmp_partial};
+ghost use Rattle.sx_values.specs.Values.{value_cmp, value_eq, value_fed, value_partial_cmp};
+ghost use Rattle.sx_values.specs.ValueLaws.{equal_values_fed, value_eq_partial, value_eq_equivalence, value_cmp_total, value_cmp_partial};
 ghost use Rattle.std.specs.Prelude.{refl};
 
 use crate::Text;
 use std::alloc::{AllocError, Global};
 use std::cmp::Ordering;
+use std::hash::{Hash, Hasher};
 use sx_lists::{Copied, Same};
 
 /// A value of a row: Null, a number or a text. They are ordered so, numbers by size and texts by bytes.
@@ -80,6 +81,20 @@ impl Ord for Value {
             (Value::Int(_), Value::Text(_)) => Ordering::Less,
             (Value::Text(_), Value::Int(_)) => Ordering::Greater,
             (Value::Text(one), Value::Text(two)) => one.cmp(two),
+        }
+    }
+}
+
+impl Hash for Value {
+    ghost hash_input = { value_fed };
+
+    ghost respects_eq = { equal_values_fed };
+
+    fn hash<H: Hasher>(&self, state: &mut H) {
+        match self {
+            Value::Null => {}
+            Value::Int(number) => number.hash(state),
+            Value::Text(text) => text.hash(state),
         }
     }
 }

@@ -1,6 +1,7 @@
-use Rattle.std.proofs.Common.{◌≡◌, ◌∷◌, ◌∙◌, [], List, IfOk, ap, sym, subst}
+use Rattle.std.proofs.Common.{◌≡◌, ◌∷◌, ◌∙◌, [], Bor, List, IfOk, ap, map, sym, subst}
 use Rattle.std.specs.List.{IsDistinct}
 use Rattle.sx_values.specs.Names.{same_name}
+use Rattle.sx_values.specs.declared.value.Value.{Value}
 use Rattle.sx_heap.specs.declared.tables.NamedTable.{NamedTable}
 use Rattle.sx_heap.specs.NamedTables.{names_of_tables}
 use Rattle.sx_ops.specs.declared.spec.Target.{Target}
@@ -9,23 +10,23 @@ use Rattle.sx_ops.specs.Targets.{targets}
 use Rattle.sx_core.specs.FreshTables.{fresh_tables}
 use Rattle.sx_core.specs.Kept.{plain_rows}
 use Rattle.sx_core.specs.Exchanges.{bare_rows, target_names, FillTargets}
-use Rattle.sx_core.proofs.ExchangeLemmas.{splits_into, walked_whole, one_source, names_made, rows_made, made_so}
+use Rattle.sx_core.proofs.ExchangeLemmas.{splits_into, one_source, names_made, rows_made, made_so}
 use Rattle.sx_core.proofs.exchange.new_tables.Goals as goal
 
 pub transform-requires-clause-rows : goal.transform-requires-clause-rows
 transform-requires-clause-rows c =
     let source = c.args.source.now in
-    let whole = walked_whole source.rows c.start.result c.len.result c.in_ok-walked.walked c.in_ok-walked.ensures.walked c.start.ensures c.len.ensures.len in
-    let one = one_source c.push.new.self c.new-sources.result c.in_ok-rows_of.field-0 c.in_ok-walked.walked.seen source.rows c.in_ok-push.ensures.ok c.new-sources.ensures c.in_ok-rows_of.ensures whole in
-    let splits = splits_into c.args.catalog.now c.args.spec.now source c.len.ensures.relation c.requires.shaped c.requires.fits c.requires.declared in
+    let bare = c.in_ok-copies_of.ensures ∙ ap (map (λ (row : Bor (List Value)). row.now)) c.as_slice.ensures.value ∙ c.in_ok-rows.ensures.rows in
+    let one = one_source c.push.new.self c.new-sources.result c.in_ok-copies_of.field-0 (bare_rows source.rows) c.in_ok-push.ensures.ok c.new-sources.ensures bare in
+    let splits = splits_into c.args.catalog.now c.args.spec.now source c.rows.ensures.relation c.requires.shaped c.requires.fits c.requires.declared in
     subst (AreSourceRows c.args.catalog.now (sources_of c.args.spec.now)) (sym one) splits.sources
 
 pub filled_tables-requires : goal.filled_tables-requires
 filled_tables-requires c =
     let source = c.args.source.now in
-    let whole = walked_whole source.rows c.start.result c.len.result c.in_ok-walked.walked c.in_ok-walked.ensures.walked c.start.ensures c.len.ensures.len in
-    let one = one_source c.push.new.self c.new-sources.result c.in_ok-rows_of.field-0 c.in_ok-walked.walked.seen source.rows c.in_ok-push.ensures.ok c.new-sources.ensures c.in_ok-rows_of.ensures whole in
-    let splits = splits_into c.args.catalog.now c.args.spec.now source c.len.ensures.relation c.requires.shaped c.requires.fits c.requires.declared in
+    let bare = c.in_ok-copies_of.ensures ∙ ap (map (λ (row : Bor (List Value)). row.now)) c.as_slice.ensures.value ∙ c.in_ok-rows.ensures.rows in
+    let one = one_source c.push.new.self c.new-sources.result c.in_ok-copies_of.field-0 (bare_rows source.rows) c.in_ok-push.ensures.ok c.new-sources.ensures bare in
+    let splits = splits_into c.args.catalog.now c.args.spec.now source c.rows.ensures.relation c.requires.shaped c.requires.fits c.requires.declared in
     let lists : c.in_ok-lists.lists ≡ operator c.args.catalog.now c.args.spec.now (bare_rows source.rows ∷ []) = c.in_ok-lists.ensures ∙ ap (operator c.args.catalog.now c.args.spec.now) one in
     record {
       fill = subst (λ targets. FillTargets targets c.in_ok-lists.lists) (sym c.in_ok-targets.ensures) (subst (FillTargets _) (sym lists) splits.fill);
@@ -35,9 +36,9 @@ filled_tables-requires c =
 pub returns : goal.returns
 returns c =
     let source = c.args.source.now in
-    let whole = walked_whole source.rows c.start.result c.len.result c.in_ok-walked.walked c.in_ok-walked.ensures.walked c.start.ensures c.len.ensures.len in
-    let one = one_source c.push.new.self c.new-sources.result c.in_ok-rows_of.field-0 c.in_ok-walked.walked.seen source.rows c.in_ok-push.ensures.ok c.new-sources.ensures c.in_ok-rows_of.ensures whole in
-    let splits = splits_into c.args.catalog.now c.args.spec.now source c.len.ensures.relation c.requires.shaped c.requires.fits c.requires.declared in
+    let bare = c.in_ok-copies_of.ensures ∙ ap (map (λ (row : Bor (List Value)). row.now)) c.as_slice.ensures.value ∙ c.in_ok-rows.ensures.rows in
+    let one = one_source c.push.new.self c.new-sources.result c.in_ok-copies_of.field-0 (bare_rows source.rows) c.in_ok-push.ensures.ok c.new-sources.ensures bare in
+    let splits = splits_into c.args.catalog.now c.args.spec.now source c.rows.ensures.relation c.requires.shaped c.requires.fits c.requires.declared in
     let catalog = c.args.catalog.now in
     let spec = c.args.spec.now in
     let rows = bare_rows source.rows in
@@ -45,7 +46,7 @@ returns c =
     let all = ap (λ l. fresh_tables l c.in_ok-lists.lists) c.in_ok-targets.ensures ∙ ap (fresh_tables (targets catalog spec)) lists in
     let made = subst (λ all. IfOk c.filled_tables.result (λ (tables : List NamedTable). tables ≡ all)) all c.filled_tables.ensures in
     record {
-      relation = c.len.ensures.relation;
+      relation = c.rows.ensures.relation;
       made = made;
       names = made_so names_of_tables c.filled_tables.result (fresh_tables (targets catalog spec) (operator catalog spec (rows ∷ []))) (targets_of spec) made (names_made catalog spec rows splits);
       rows = made_so plain_rows c.filled_tables.result (fresh_tables (targets catalog spec) (operator catalog spec (rows ∷ []))) (operator catalog spec (rows ∷ [])) made (rows_made catalog spec rows splits);

@@ -18,26 +18,26 @@ pub invariant_of-self-2 : goal.invariant_of-self-2
 invariant_of-self-2 c =
     let i = c.self.inside in
     let r : Rec = record { txn = 0; body = body.Mark } in
-    let e : Event → Entry = λ v. record { actor = 0; event = v; reply = Started c.len-lsn.result } in
-    let grown = c.append.ensures.item ∙ ap (λ l. r ∷ l) c.reserve-2.ensures.items in
-    let longer = c.append-2.ensures.item ∙ ap (λ l. e c.in_ok-kept.event ∷ l) c.reserve.ensures.items ∙ ap (λ v. e v ∷ i.journal.newest) c.in_ok-kept.ensures.event in
-    let kept = kept-started (opened i.catalog i.loads i.log.newest) i.journal.newest c.append-2.new.self.newest i.log.newest c.append.new.self.newest i.tables i.new_tables i.living i.begun i.phase i.spec i.cursor c.args.self.now c.args.spec c.args.strategy c.len-lsn.result
+    let e : Event → Entry = λ v. record { actor = 0; event = v; reply = Started c.append-lsn.result } in
+    let grown = c.append-lsn.ensures.item ∙ ap (λ l. r ∷ l) c.reserve-2.ensures.items in
+    let longer = c.append.ensures.item ∙ ap (λ l. e c.in_ok-kept.event ∷ l) c.reserve.ensures.items ∙ ap (λ v. e v ∷ i.journal.newest) c.in_ok-kept.ensures.event in
+    let kept = kept-started (opened i.catalog i.loads i.log.newest) i.journal.newest c.append.new.self.newest i.log.newest c.append-lsn.new.self.newest i.tables i.new_tables i.living i.begun i.phase i.spec i.cursor c.args.self.now c.args.spec c.args.strategy c.append-lsn.result
     (record { kept = c.self.invariant.1; view = c.self.view_is; at = c.requires.idle; room = c.requires.room })
-    grown c.len-lsn.ensures c.requires.shaped c.requires.fits c.requires.blocking longer in
-    let kept_spec = subst (λ (s : Spec). IsKept (opened i.catalog i.loads i.log.newest) c.append-2.new.self.newest c.append.new.self.newest i.tables i.new_tables i.living i.begun Scanning (Some s) None) (sym c.in_ok-kept.ensures.kept) kept in
-    let kept_cursor = subst (λ (k : Option (List Value)). IsKept (opened i.catalog i.loads i.log.newest) c.append-2.new.self.newest c.append.new.self.newest i.tables i.new_tables i.living i.begun Scanning (Some c.in_ok-kept.kept) k) (sym c.start.ensures) kept_spec in
-    grown_kept i.catalog i.loads c.append-2.new.self.newest i.log.newest c.append.new.self.newest r i.tables i.new_tables i.living i.begun Scanning (Some c.in_ok-kept.kept) c.start.result c.self.invariant.0 grown kept_cursor
+    grown c.append-lsn.ensures.place c.requires.shaped c.requires.fits c.requires.blocking longer in
+    let kept_spec = subst (λ (s : Spec). IsKept (opened i.catalog i.loads i.log.newest) c.append.new.self.newest c.append-lsn.new.self.newest i.tables i.new_tables i.living i.begun Scanning (Some s) None) (sym c.in_ok-kept.ensures.kept) kept in
+    let kept_cursor = subst (λ (k : Option (List Value)). IsKept (opened i.catalog i.loads i.log.newest) c.append.new.self.newest c.append-lsn.new.self.newest i.tables i.new_tables i.living i.begun Scanning (Some c.in_ok-kept.kept) k) (sym c.start.ensures) kept_spec in
+    grown_kept i.catalog i.loads c.append.new.self.newest i.log.newest c.append-lsn.new.self.newest r i.tables i.new_tables i.living i.begun Scanning (Some c.in_ok-kept.kept) c.start.result c.self.invariant.0 grown kept_cursor
 
 pub returns : goal.returns
 returns c =
     let i = c.self.inside in
     let r : Rec = record { txn = 0; body = body.Mark } in
-    let e : Event → Entry = λ v. record { actor = 0; event = v; reply = Started c.len-lsn.result } in
-    let grown = c.append.ensures.item ∙ ap (λ l. r ∷ l) c.reserve-2.ensures.items in
-    let longer = c.append-2.ensures.item ∙ ap (λ l. e c.in_ok-kept.event ∷ l) c.reserve.ensures.items ∙ ap (λ v. e v ∷ i.journal.newest) c.in_ok-kept.ensures.event in
-    let kept = kept-started (opened i.catalog i.loads i.log.newest) i.journal.newest c.append-2.new.self.newest i.log.newest c.append.new.self.newest i.tables i.new_tables i.living i.begun i.phase i.spec i.cursor c.args.self.now c.args.spec c.args.strategy c.len-lsn.result
+    let e : Event → Entry = λ v. record { actor = 0; event = v; reply = Started c.append-lsn.result } in
+    let grown = c.append-lsn.ensures.item ∙ ap (λ l. r ∷ l) c.reserve-2.ensures.items in
+    let longer = c.append.ensures.item ∙ ap (λ l. e c.in_ok-kept.event ∷ l) c.reserve.ensures.items ∙ ap (λ v. e v ∷ i.journal.newest) c.in_ok-kept.ensures.event in
+    let kept = kept-started (opened i.catalog i.loads i.log.newest) i.journal.newest c.append.new.self.newest i.log.newest c.append-lsn.new.self.newest i.tables i.new_tables i.living i.begun i.phase i.spec i.cursor c.args.self.now c.args.spec c.args.strategy c.append-lsn.result
     (record { kept = c.self.invariant.1; view = c.self.view_is; at = c.requires.idle; room = c.requires.room })
-    grown c.len-lsn.ensures c.requires.shaped c.requires.fits c.requires.blocking longer in
-    let turn = turned (opened i.catalog i.loads i.log.newest) _ i.journal.newest c.append-2.new.self.newest c.append.new.self.newest i.tables i.new_tables i.living i.begun Scanning (Some c.args.spec) None c.args.self.now 0 (Start c.args.spec c.args.strategy) (Started c.len-lsn.result) (Started c.len-lsn.result)
-    c.self.view_is (opened-more i.catalog i.loads i.log.newest c.append.new.self.newest r c.self.invariant.0 grown) longer refl kept in
-    (start_right _ _ c.args.spec c.args.strategy (Started c.len-lsn.result) turn, turn)
+    grown c.append-lsn.ensures.place c.requires.shaped c.requires.fits c.requires.blocking longer in
+    let turn = turned (opened i.catalog i.loads i.log.newest) _ i.journal.newest c.append.new.self.newest c.append-lsn.new.self.newest i.tables i.new_tables i.living i.begun Scanning (Some c.args.spec) None c.args.self.now 0 (Start c.args.spec c.args.strategy) (Started c.append-lsn.result) (Started c.append-lsn.result)
+    c.self.view_is (opened-more i.catalog i.loads i.log.newest c.append-lsn.new.self.newest r c.self.invariant.0 grown) longer refl kept in
+    (start_right _ _ c.args.spec c.args.strategy (Started c.append-lsn.result) turn, turn)

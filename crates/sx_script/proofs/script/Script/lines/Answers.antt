@@ -1,11 +1,12 @@
 use Rattle.std.proofs.Common.{◌≡◌, ◌≤◌, List, length, Some, sym, ap, subst}
+use Rattle.std.specs.List.{All}
 use Rattle.sx_values.specs.Catalogs.{IsCatalog}
 use Rattle.sx_script.specs.declared.line.Line.{Line}
 use Rattle.sx_script.specs.Plans.{plan_of}
 use Rattle.sx_script.specs.Reading.{script_read}
-use Rattle.sx_script.specs.Printing.{script_text}
+use Rattle.sx_script.specs.Printing.{HasText, script_text}
 use Rattle.sx_script.specs.Sound.{IsRunnable}
-use Rattle.sx_script.proofs.ScriptLaws.{script_short, runnable}
+use Rattle.sx_script.proofs.ScriptLaws.{script_short, script_texts, runnable}
 use Rattle.sx_script.proofs.AgainLaws.{script_again, has_layouts}
 use Rattle.sx_script.proofs.script.Script.lines.Goals as goal
 
@@ -22,6 +23,11 @@ returns-clause-few c =
     let is = c.self.invariant in
     let P : List Line → Type 0 = λ ls. length ls ≤ 20000 in
     subst P c.self.view_is (script_short is.is_read.bytes lines is.is_read.read)
+
+pub returns-clause-texts : goal.returns-clause-texts
+returns-clause-texts c =
+    let is = c.self.invariant in
+    subst (All HasText) c.self.view_is (script_texts is.is_read.bytes c.self.inside.lines is.is_read.read)
 
 pub returns-clause-again : goal.returns-clause-again
 returns-clause-again c =
