@@ -14,6 +14,7 @@ ghost use Rattle.sx_core.specs.FreshTables.{fresh_table, fresh_tables};
 ghost use Rattle.sx_core.specs.Kept.{plain_rows};
 ghost use Rattle.sx_core.specs.Exchanges.{source_table, source_schema, bare_rows, target_names, AreInOrder, FillTargets};
 
+use crate::uncounted;
 use std::alloc::{AllocError, Global};
 use sx_heap::{Table, Tables};
 use sx_journal::{Entry, Event, Reply, Request};
@@ -51,7 +52,7 @@ pub(crate) fn new_tables(
     ensures rows { IfOk result (λ tables. plain_rows tables
         ≡ operator catalog.now spec.now (bare_rows source.now.rows ∷ [])) }
 {
-    let rows = source.rows(alloc)?;
+    let rows = uncounted::rows(alloc, source)?;
     let mut sources = RowLists::new(alloc);
     sources.push(copies_of(alloc, rows.as_slice())?)?;
     let lists = spec.transform(alloc, catalog, &sources)?;

@@ -5,6 +5,7 @@ ghost use Rattle.sx_core.specs.Writes.{TakesImage};
 ghost use Rattle.sx_log.specs.State.{stored};
 ghost use Rattle.sx_heap.specs.NamedTables.{AreNamedApart, SetsRowIn, table_named};
 
+use crate::uncounted;
 use std::alloc::{AllocError, Global};
 use sx_heap::{Table, Tables};
 use sx_journal::Reply;
@@ -72,7 +73,7 @@ impl Found {
 fn row_there(alloc: Global, table: &Table, key: &Key) -> Result<Option<Row>, AllocError>
     ensures { IfOk result (λ row. row ≡ option_map (λ s. s.0) (row_at table.now.rows key.now)) }
 {
-    match table.get(key) {
+    match uncounted::get(table, key) {
         None => Ok(None),
         Some((row, _)) => Ok(Some(row.copy(alloc)?)),
     }
@@ -113,7 +114,7 @@ fn has_key(tables: &Tables, name: &Name, key: &Key) -> bool
     ensures apart { AreNamedApart tables.now }
 {
     match tables.find(name) {
-        Some(table) => table.get(key).is_some(),
+        Some(table) => uncounted::get(table, key).is_some(),
         None => unreachable!(),
     }
 }

@@ -9,6 +9,7 @@ mod make;
 mod propagator;
 mod rows;
 mod turns;
+mod uncounted;
 
 pub use machine::{Core, CoreFault};
 pub use make::MakeFault;

@@ -14,7 +14,7 @@ ghost use Rattle.sx_core.specs.Conflicts.{conflict_now};
 ghost use Rattle.sx_core.specs.Exchanges.{source_table, WalksIn, CanExchange, IsExchange};
 
 use crate::exchange::{has_lock, new_tables, source_table};
-use crate::{Core, CoreFault};
+use crate::{Core, CoreFault, uncounted};
 use std::alloc::{AllocError, Global};
 use sx_heap::{Cursor, Seen, Tables, Walked};
 use sx_journal::{Entry, Event, Reply};
@@ -167,7 +167,7 @@ fn walk_source(
     ensures { IfOk result (λ walked. IsSomeAnd (source_table spec.now tables.now) (WalksIn cursor.now n walked)) }
 {
     match source_table(spec, tables) {
-        Some(source) => source.walk(alloc, cursor.copy(alloc)?, n),
+        Some(source) => uncounted::walk(alloc, source, cursor.copy(alloc)?, n),
         None => unreachable!(),
     }
 }

@@ -7,7 +7,7 @@ ghost use Rattle.sx_sync.specs.declared.Phase.TheVariants.{Idle, Scanning, Chasi
 ghost use Rattle.sx_model.specs.Built.{IsBuilt};
 ghost use Rattle.sx_model.specs.Leaves.{phase};
 
-use crate::{Core, CoreFault, Loads, MakeFault};
+use crate::{Core, CoreFault, Loads, MakeFault, uncounted};
 use std::alloc::Global;
 use std::process::Abort;
 use std::test::Fail;
@@ -228,7 +228,7 @@ fn assert_row(
 ) -> Result<(), Fail> {
     let name = Name::new(alloc, name)?;
     let table = core.new_tables().find(&name).ok_or("no table")?;
-    let (row, lsn) = table.get(&key_of(alloc, id)?).ok_or("no row")?;
+    let (row, lsn) = uncounted::get(table, &key_of(alloc, id)?).ok_or("no row")?;
     assert_eq!(rt; *row, row_of(alloc, id, v)?);
     assert_eq!(rt; lsn, 0);
     Ok(())

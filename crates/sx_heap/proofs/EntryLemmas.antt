@@ -1,9 +1,9 @@
 -- The rows of a map's entries: at a key, in order, and between bounds.
-use Rattle.std.proofs.Common.{◌≡◌, ◌↔◌, IsTrue, ◌∷◌, ◌++◌, [], ◌+◌, ◌&&◌, ℕ, zero, suc, List, Bool, true, false, Option, Some, None, option_map, refl, sym, ap, ◌∙◌, subst, cond, map, take, drop, All}
-use Rattle.std.specs.Map.{lookup, keys_of, values_of}
+use Rattle.std.proofs.Common.{◌≡◌, ◌↔◌, IsTrue, ◌∷◌, ◌++◌, [], ◌+◌, ◌&&◌, IsSome, ℕ, zero, suc, List, Bool, true, false, Option, Some, None, option_map, refl, sym, ap, ◌∙◌, subst, cond, map, take, drop, All}
+use Rattle.std.specs.Map.{lookup, keys_of, values_of, set_value}
 use Rattle.std.specs.BTreeMap.{is_at, insert_entry}
 use Rattle.std.specs.BTreeMap.Range.{entries_between}
-use Rattle.std.specs.Ordering.{match_ordering}
+use Rattle.std.specs.Ordering.{is_eq, match_ordering}
 use Rattle.std.specs.declared.cmp.Ordering.{Ordering}
 use Rattle.std.specs.declared.cmp.Ordering.TheVariants.{Less, Equal, Greater}
 use Rattle.std.specs.declared.ops.Bound.TheVariants.{Unbounded}
@@ -60,6 +60,24 @@ All-rows_of-insert_entry P key v (e ∷ es) h a = by (values_cmp key e.0) refl (
     by Less k put b = All-cons P (seen_of (key, v)) (rows_of (e ∷ es)) h a
     by Equal k put b = All-cons P (seen_of (e.0, v)) (rows_of es) (subst (λ q. P (seen_of (q, v))) (values_tie key e.0 k) h) (All-tail P (seen_of e) (rows_of es) a)
     by Greater k put b = All-cons P (seen_of e) (rows_of put) (All-head P (seen_of e) (rows_of es) a) b
+
+-- what holds of each row, and of one that is written at its key, holds of each row then
+pub All-rows_of-set_value : (P : Seen → Type 0) (key : List Value) (v : Stamped) (es : List (List Value × Stamped)) → P (seen_of (key, v)) → All P (rows_of es) → All P (rows_of (set_value (is_at (values_cmp key)) es v))
+All-rows_of-set_value P key v [] h a = All-nil P
+All-rows_of-set_value P key v (e ∷ es) h a = by (values_cmp key e.0) refl (set_value (is_at (values_cmp key)) es v) (All-rows_of-set_value P key v es h (All-tail P (seen_of e) (rows_of es) a))
+  where
+    by : (r : Ordering) → values_cmp key e.0 ≡ r → (put : List (List Value × Stamped)) → All P (rows_of put) → All P (rows_of (cond (is_eq r) ((e.0, v) ∷ es) (e ∷ put)))
+    by Less k put b = All-cons P (seen_of e) (rows_of put) (All-head P (seen_of e) (rows_of es) a) b
+    by Equal k put b = All-cons P (seen_of (e.0, v)) (rows_of es) (subst (λ q. P (seen_of (q, v))) (values_tie key e.0 k) h) (All-tail P (seen_of e) (rows_of es) a)
+    by Greater k put b = All-cons P (seen_of e) (rows_of put) (All-head P (seen_of e) (rows_of es) a) b
+
+-- a key that has a row has an entry
+pub has_entry : (es : List (List Value × Stamped)) (key : List Value) → IsSome (row_at (rows_of es) key) → IsSome (lookup (is_at (values_cmp key)) es)
+has_entry es key there = by (lookup (is_at (values_cmp key)) es) (subst IsSome (row_at-rows_of es key) there)
+  where
+    by : (found : Option Stamped) → IsSome (option_map image_of found) → IsSome found
+    by None h = h
+    by (Some v) h = h
 
 -- one more entry, where it stands in the range
 between_head : (b : Bool) (e : List Value × Stamped) (xs : List (List Value × Stamped)) (ys : List Seen) → rows_of xs ≡ ys → rows_of (cond (b && true) (e ∷ xs) xs) ≡ cond b (seen_of e ∷ ys) ys

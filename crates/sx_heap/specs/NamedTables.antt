@@ -44,6 +44,12 @@ pub record HasKeyOf (row : List Value) (table : Relation) : Type 0 where
   pub admitted : Admits table.schema row
   pub there : IsSome (row_at table.rows (key_of table.schema row))
 
+-- the table admits the row, whose key this is, and has a row of it
+pub record HasThisKeyOf (key row : List Value) (table : Relation) : Type 0 where
+  pub admitted : Admits table.schema row
+  pub keyed : key ≡ key_of table.schema row
+  pub there : IsSome (row_at table.rows key)
+
 -- the table of this name was this one, and has now this row at the key, or none; all else stays
 pub record SetsRowIn (old new : List NamedTable) (name : List ℕ) (before : Relation) (key : List Value) (image : Option (List Value × ℕ)) : Type 0 where
   pub after : Relation

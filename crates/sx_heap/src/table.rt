@@ -1,5 +1,5 @@
 // A table: its rows by key.
-ghost use Rattle.std.specs.Prelude.{◌≡◌, ◌==◌, [], None, length, map, option_map, take, drop, IfOk, OnOk, OnErr, IsOk, IsSome};
+ghost use Rattle.std.specs.Prelude.{◌≡◌, ◌==◌, ◌+◌, ◌≤◌, [], None, length, map, option_map, take, drop, IfOk, OnOk, OnErr, IsOk, IsSome, is_some, if◌then◌else◌};
 ghost use Rattle.sx_values.specs.Layouts.{Admits, key_of};
 ghost use Rattle.sx_heap.specs.Relations.{IsRelation, IsRowOf, SetsRow, row_at};
 ghost use Rattle.sx_heap.specs.Walks.{WalksOn};
@@ -11,7 +11,9 @@ use std::collections::BTreeMap;
 use std::collections::btree_map::Range;
 use std::marker::Model;
 use std::ops::Bound;
+use std::sync::ledger::Ledger;
 use sx_lists::{Copied, List};
+use sx_steps::Steps;
 use sx_values::{Key, Row, Schema};
 
 // A row, and the LSN of the record that put it there.
@@ -21,7 +23,7 @@ struct Stamped {
     lsn: u64,
 }
 
-/// The rows of a table, with their LSNs.
+/// The rows of a table, with their LSNs. Each row that a call hands out is a step.
 #[derive(Drop)]
 pub struct Table {
     schema: Schema,
@@ -78,12 +80,13 @@ impl Table {
     }
 
     /// The row of a key and its LSN, or None where the key is absent.
-    pub fn get(&self, key: &Key) -> Option<(&Row, u64)>
+    pub fn get<L: Ledger>(&self, key: &Key, steps: &mut Steps<L>) -> Option<(&Row, u64)>
         ensures found { option_map (λ found. (found.0.now, found.1)) result ≡ row_at self.now.rows key.now }
+        ensures counted { steps.new ≡ (if is_some result then steps.old + 1 else steps.old) }
         ensures relation { IsRelation self.now }
     {
         match self.rows.get(key) {
-            Some(stamped) => Some((&stamped.row, stamped.lsn)),
+            Some(stamped) => Some(stamped.handed_out(steps)),
             None => None,
         }
     }
@@ -107,8 +110,21 @@ impl Table {
         ensures err { OnErr result (self.new ≡ self.old) }
     {
         let key = self.schema.key_of(self.alloc, &row)?;
-        let newer = Stamped { row, lsn };
-        self.put(key, newer)
+        self.rewrite(&key, row, lsn);
+        Ok(())
+    }
+
+    /// Puts a row in the place of that of its key. It takes no memory.
+    pub fn rewrite(&mut self, key: &Key, row: Row, lsn: u64)
+        requires admitted { Admits self.old.schema row }
+        requires keyed { key.now ≡ key_of self.old.schema row }
+        requires there { IsSome (row_at self.old.rows key.now) }
+        ensures { SetsRow self.old self.new key.now (Some (row, lsn)) }
+    {
+        match self.rows.get_mut(key) {
+            Some(stamped) => *stamped = Stamped { row, lsn },
+            None => unreachable!(),
+        }
     }
 
     /// Takes out the row of a key. It takes no memory, so it is always done.
@@ -123,25 +139,42 @@ impl Table {
     }
 
     /// The next `n` rows behind the cursor, in key order, or all of them where they are fewer.
-    pub fn walk(&self, alloc: Global, cursor: Cursor, n: u64) -> Result<Walked, AllocError>
+    pub fn walk<L: Ledger>(
+        &self,
+        alloc: Global,
+        cursor: Cursor,
+        n: u64,
+        steps: &mut Steps<L>,
+    ) -> Result<Walked, AllocError>
         ensures walked { IfOk result (WalksOn self.now.rows cursor n) }
+        ensures counted { IfOk result (λ walked. steps.new ≡ steps.old + length walked.seen) }
+        ensures kept { steps.old ≤ steps.new }
+        ensures bounded { steps.new ≤ steps.old + n }
         ensures relation { IsRelation self.now }
     {
         let mut ahead = self.rows.range((cursor.bound(), Bound::Unbounded));
-        let seen = next_rows(alloc, &mut ahead, n)?;
+        let seen = next_rows(alloc, &mut ahead, n, steps)?;
         let over = ahead.next().is_none();
         let next = cursor.moved_past(alloc, seen.as_slice())?;
         Ok(Walked { seen, next, over })
     }
 
     /// The rows where they stand, in key order.
-    pub fn rows(&self, alloc: Global) -> Result<Vec<&Row>, AllocError>
+    pub fn rows<L: Ledger>(
+        &self,
+        alloc: Global,
+        steps: &mut Steps<L>,
+    ) -> Result<Vec<&Row>, AllocError>
         ensures rows { IfOk result (λ rows. map (λ row. row.now) rows.items ≡ map (λ seen. seen.row) self.now.rows) }
+        ensures counted { OnOk result (steps.new ≡ steps.old + length self.now.rows) }
+        ensures kept { steps.old ≤ steps.new }
+        ensures bounded { steps.new ≤ steps.old + length self.now.rows }
         ensures relation { IsRelation self.now }
     {
         let mut rows = Vec::new(alloc);
         for stamped in self.rows.values() {
-            rows.push(&stamped.row)?;
+            let (row, _) = stamped.handed_out(steps);
+            rows.push(row)?;
         }
         Ok(rows)
     }
@@ -158,33 +191,50 @@ impl Table {
 }
 
 impl Stamped {
-    // The row as it is seen at a key.
-    fn seen_at(&self, alloc: Global, key: &Key) -> Result<Seen, AllocError>
-        ensures { IfOk result (λ seen. seen ≡ seen_of (key.now, self.now)) }
+    // The row and its LSN. No other function hands them out, so each row handed out is counted.
+    fn handed_out<L: Ledger>(&self, steps: &mut Steps<L>) -> (&Row, u64)
+        ensures row { result.0.now ≡ self.now.row }
+        ensures lsn { result.1 ≡ self.now.lsn }
+        ensures counted { steps.new ≡ steps.old + 1 }
     {
+        steps.tick();
+        (&self.row, self.lsn)
+    }
+
+    // The row as it is seen at a key.
+    fn seen_at<L: Ledger>(
+        &self,
+        alloc: Global,
+        key: &Key,
+        steps: &mut Steps<L>,
+    ) -> Result<Seen, AllocError>
+        ensures seen { IfOk result (λ seen. seen ≡ seen_of (key.now, self.now)) }
+        ensures counted { steps.new ≡ steps.old + 1 }
+    {
+        let (row, lsn) = self.handed_out(steps);
         let key = key.copy(alloc)?;
-        let row = self.row.copy(alloc)?;
-        Ok(Seen {
-            key,
-            row,
-            lsn: self.lsn,
-        })
+        let row = row.copy(alloc)?;
+        Ok(Seen { key, row, lsn })
     }
 }
 
 // The next rows of those ahead, at most `n`.
-fn next_rows(
+fn next_rows<L: Ledger>(
     alloc: Global,
     ahead: &mut Range<'_, Key, Stamped>,
     n: u64,
+    steps: &mut Steps<L>,
 ) -> Result<Seens, AllocError>
     ensures seen { IfOk result (λ seen. seen ≡ rows_of (take n ahead.old)) }
     ensures left { OnOk result (ahead.new ≡ drop n ahead.old) }
+    ensures counted { IfOk result (λ seen. steps.new ≡ steps.old + length seen) }
+    ensures kept { steps.old ≤ steps.new }
+    ensures bounded { steps.new ≤ steps.old + n }
 {
     let mut seen = List::new(alloc);
     for _turn in 0..n {
         match ahead.next() {
-            Some((key, stamped)) => seen.push(stamped.seen_at(alloc, key)?)?,
+            Some((key, stamped)) => seen.push(stamped.seen_at(alloc, key, steps)?)?,
             None => return Ok(seen),
         }
     }

@@ -3,7 +3,7 @@ ghost use Rattle.std.specs.Prelude.{◌≡◌, ◌==◌, [], ◌∷◌, ◌++◌
 ghost use Rattle.sx_values.specs.Names.{same_name};
 ghost use Rattle.std.specs.Option.{option_copied, option_copied_mut};
 ghost use Rattle.sx_lists.specs.Places.{at_place};
-ghost use Rattle.sx_heap.specs.NamedTables.{AreNamedApart, PutsRowIn, RemovesRowIn, LacksKeyOf, HasKeyOf, table_named, index_named, named_pair};
+ghost use Rattle.sx_heap.specs.NamedTables.{AreNamedApart, PutsRowIn, RemovesRowIn, LacksKeyOf, HasKeyOf, HasThisKeyOf, table_named, index_named, named_pair};
 ghost use Rattle.sx_heap.specs.Relations.{row_at};
 
 use crate::Table;
@@ -125,6 +125,18 @@ impl Tables {
     {
         match self.find_mut(name) {
             Some(table) => table.replace(row, lsn),
+            None => unreachable!(),
+        }
+    }
+
+    /// Puts a row in the place of that of its key in the table of a name. It takes no memory.
+    #[tactic(auto, using(crate::proofs::NameLemmas::with_table_same))]
+    pub fn rewrite(&mut self, name: &Name, key: &Key, row: Row, lsn: u64)
+        requires { IsSomeAnd (table_named self.old name.now) (HasThisKeyOf key.now row) }
+        ensures { PutsRowIn self.old self.new name.now row lsn }
+    {
+        match self.find_mut(name) {
+            Some(table) => table.rewrite(key, row, lsn),
             None => unreachable!(),
         }
     }

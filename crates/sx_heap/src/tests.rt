@@ -1,9 +1,16 @@
 // Rows that are put in out of order, by key, in turns and by the name of their table.
+ghost use Rattle.std.specs.Prelude.{◌≡◌, ◌+◌, ◌<◌, IfOk, OnOk, IsTrue, IsSomeAnd, option_map};
+ghost use Rattle.sx_heap.specs.Relations.{row_at};
+ghost use Rattle.sx_heap.specs.NamedTables.{HasThisKeyOf, table_named};
+
 use crate::{Cursor, Table, Tables, Walked};
 use std::alloc::Global;
+use std::marker::Brand;
 use std::process::Abort;
+use std::sync::ledger::{Blank, Ledger};
 use std::test::Fail;
 use sx_lists::{Copied, List, Same};
+use sx_steps::Steps;
 use sx_values::{Column, Key, Kind, Name, Row, Schema, Value};
 
 // A number as the key, and another.
@@ -37,6 +44,23 @@ fn key(alloc: Global, id: i64) -> Result<Key, Fail> {
     Ok(key)
 }
 
+// What a table has at a key. Nobody reads the counter.
+fn get<'a>(table: &'a Table, key: &Key) -> Option<(&'a Row, u64)>
+    ensures { option_map (λ found. (found.0.now, found.1)) result ≡ row_at table.now.rows key.now }
+{
+    get_counted::<Brand>(table, key, Blank::new(1))
+}
+
+fn get_counted<'a, L: Ledger>(table: &'a Table, key: &Key, blank: Blank) -> Option<(&'a Row, u64)>
+    requires name { blank.name ≡ L.name }
+    requires parts { blank.parts ≡ L.parts }
+    requires some { 0 < blank.parts }
+    ensures { option_map (λ found. (found.0.now, found.1)) result ≡ row_at table.now.rows key.now }
+{
+    let mut steps = Steps::<L>::new(blank);
+    table.get(key, &mut steps)
+}
+
 fn insert(
     rt: &impl Abort,
     alloc: Global,
@@ -46,7 +70,7 @@ fn insert(
 ) -> Result<(), Fail> {
     assert!(rt; table.schema().admits(&row).is_ok());
     let key = table.schema().key_of(alloc, &row)?;
-    assert!(rt; table.get(&key).is_none());
+    assert!(rt; get(table, &key).is_none());
     table.insert(row, lsn)?;
     Ok(())
 }
@@ -60,9 +84,29 @@ fn replace(
 ) -> Result<(), Fail> {
     assert!(rt; table.schema().admits(&row).is_ok());
     let key = table.schema().key_of(alloc, &row)?;
-    assert!(rt; table.get(&key).is_some());
+    assert!(rt; get(table, &key).is_some());
     table.replace(row, lsn)?;
     Ok(())
+}
+
+// Whether the table of a name admits a row and has a row of its key, which is this key.
+fn can_rewrite(
+    alloc: Global,
+    tables: &Tables,
+    name: &Name,
+    key: &Key,
+    row: &Row,
+) -> Result<bool, Fail>
+    ensures { IfOk result (λ can. IsTrue can → IsSomeAnd (table_named tables.now name.now) (HasThisKeyOf key.now row.now)) }
+{
+    let Some(table) = tables.find(name) else {
+        return Ok(false);
+    };
+    if table.schema().admits(row).is_err() {
+        return Ok(false);
+    }
+    let own = table.schema().key_of(alloc, row)?;
+    Ok(own.is_same(key) && get(table, key).is_some())
 }
 
 // Rows with the keys 30, -10, 50, 20 and 40, put in in this order.
@@ -75,13 +119,37 @@ fn five_rows(rt: &impl Abort, alloc: Global) -> Result<Table, Fail> {
 }
 
 fn assert_has(rt: &impl Abort, table: &Table, key: &Key, row: &Row, lsn: u64) {
-    match table.get(key) {
+    match get(table, key) {
         Some((found, at)) => {
             assert!(rt; found.is_same(row));
             assert_eq!(rt; at, lsn);
         }
         None => panic!(rt; "absent"),
     }
+}
+
+fn walk_counted<L: Ledger>(
+    alloc: Global,
+    table: &Table,
+    cursor: Cursor,
+    n: u64,
+    blank: Blank,
+) -> Result<Walked, Fail>
+    requires name { blank.name ≡ L.name }
+    requires parts { blank.parts ≡ L.parts }
+    requires some { 0 < blank.parts }
+{
+    let mut steps = Steps::<L>::new(blank);
+    Ok(table.walk(alloc, cursor, n, &mut steps)?)
+}
+
+fn rows_counted<L: Ledger>(alloc: Global, table: &Table, blank: Blank) -> Result<Vec<&Row>, Fail>
+    requires name { blank.name ≡ L.name }
+    requires parts { blank.parts ≡ L.parts }
+    requires some { 0 < blank.parts }
+{
+    let mut steps = Steps::<L>::new(blank);
+    Ok(table.rows(alloc, &mut steps)?)
 }
 
 // A turn of n rows has these LSNs, and says whether it is the last.
@@ -94,7 +162,7 @@ fn turn(
     lsns: &[u64],
     over: bool,
 ) -> Result<Cursor, Fail> {
-    let walked = table.walk(alloc, cursor, n)?;
+    let walked = walk_counted::<Brand>(alloc, table, cursor, n, Blank::new(1))?;
     assert_eq!(rt; walked.over, over);
     assert_eq!(rt; walked.seen.len(), lsns.len() as u64);
     for (seen, lsn) in walked.seen.as_slice().iter().zip(lsns) {
@@ -120,9 +188,9 @@ fn a_row_taken_out(rt: HostRuntime) -> Result<(), Fail> {
     let alloc = rt.alloc();
     let mut table = five_rows(&rt, alloc)?;
     let twenty = key(alloc, 20)?;
-    assert!(rt; table.get(&twenty).is_some());
+    assert!(rt; get(&table, &twenty).is_some());
     table.remove(&twenty)?;
-    assert!(rt; table.get(&twenty).is_none());
+    assert!(rt; get(&table, &twenty).is_none());
     assert_eq!(rt; table.len(), 4);
     Ok(())
 }
@@ -161,10 +229,13 @@ fn turns_that_end_at_the_end(rt: HostRuntime) -> Result<(), Fail> {
 fn rows_in_key_order(rt: HostRuntime) -> Result<(), Fail> {
     let alloc = rt.alloc();
     let mut table = Table::new(alloc, schema(alloc)?);
-    assert_eq!(rt; table.rows(alloc)?.len(), 0);
+    assert_eq!(rt;
+        rows_counted::<Brand>(alloc, &table, Blank::new(1))?.len(),
+        0
+    );
     insert(&rt, alloc, &mut table, row(alloc, 2, 5)?, 1)?;
     insert(&rt, alloc, &mut table, row(alloc, 1, 6)?, 2)?;
-    let rows = table.rows(alloc)?;
+    let rows = rows_counted::<Brand>(alloc, &table, Blank::new(1))?;
     assert_eq!(rt; rows.len(), 2);
     assert!(rt; rows[0].is_same(&row(alloc, 1, 6)?));
     assert!(rt; rows[1].is_same(&row(alloc, 2, 5)?));
@@ -175,7 +246,7 @@ fn rows_in_key_order(rt: HostRuntime) -> Result<(), Fail> {
 fn one_walked(rt: &impl Abort, alloc: Global) -> Result<Walked, Fail> {
     let mut table = Table::new(alloc, schema(alloc)?);
     insert(rt, alloc, &mut table, row(alloc, 2, 5)?, 9)?;
-    Ok(table.walk(alloc, Cursor::start(), 3)?)
+    walk_counted::<Brand>(alloc, &table, Cursor::start(), 3, Blank::new(1))
 }
 
 #[test]
@@ -190,6 +261,51 @@ fn a_turn_is_copied(rt: HostRuntime) -> Result<(), Fail> {
     assert!(rt; seen.row.is_same(&row(alloc, 2, 5)?));
     assert!(rt; seen.key.is_same(&key(alloc, 2)?));
     Ok(())
+}
+
+// Looks up a row that is there and one that isn't, takes a turn of one row, and then both rows of a table.
+fn look_around<L: Ledger>(
+    rt: &impl Abort,
+    alloc: Global,
+    table: &Table,
+    there: &Key,
+    absent: &Key,
+    steps: &mut Steps<L>,
+) -> Result<(), Fail>
+    ensures { OnOk result (steps.new ≡ steps.old + 4) }
+{
+    assert_eq!(rt; table.len(), 2);
+    assert!(rt; table.get(there, steps).is_some());
+    assert!(rt; table.get(absent, steps).is_none());
+    let walked = table.walk(alloc, Cursor::start(), 1, steps)?;
+    assert_eq!(rt; walked.seen.len(), 1);
+    let _rows = table.rows(alloc, steps)?;
+    Ok(())
+}
+
+fn count_rows<L: Ledger>(rt: &impl Abort, alloc: Global, blank: Blank) -> Result<(), Fail>
+    requires name { blank.name ≡ L.name }
+    requires parts { blank.parts ≡ L.parts }
+    requires some { 0 < blank.parts }
+{
+    let mut steps = Steps::<L>::new(blank);
+    let mut table = Table::new(alloc, schema(alloc)?);
+    insert(rt, alloc, &mut table, row(alloc, 1, 5)?, 1)?;
+    insert(rt, alloc, &mut table, row(alloc, 2, 6)?, 2)?;
+    look_around(
+        rt,
+        alloc,
+        &table,
+        &key(alloc, 2)?,
+        &key(alloc, 3)?,
+        &mut steps,
+    )
+}
+
+// No test can read the counter: what `look_around` ensures is proved.
+#[test]
+fn each_row_is_counted(rt: HostRuntime) -> Result<(), Fail> {
+    count_rows::<Brand>(&rt, rt.alloc(), Blank::new(1))
 }
 
 // The table a has five rows, and b has none.
@@ -235,5 +351,22 @@ fn tables_by_place(rt: HostRuntime) -> Result<(), Fail> {
         None => panic!(rt; "no place"),
     }
     assert!(rt; tables.at(3).is_none());
+    Ok(())
+}
+
+#[test]
+fn a_row_is_rewritten(rt: HostRuntime) -> Result<(), Fail> {
+    let alloc = rt.alloc();
+    let (a, b) = (Name::new(alloc, b"a")?, Name::new(alloc, b"b")?);
+    let mut tables = two_tables(&rt, alloc, Name::new(alloc, b"a")?, b)?;
+    let twenty = key(alloc, 20)?;
+    let newer = row(alloc, 20, 8)?;
+    assert!(rt; can_rewrite(alloc, &tables, &a, &twenty, &newer)?);
+    tables.rewrite(&a, &twenty, newer, 6);
+    match tables.find(&a) {
+        Some(table) => assert_has(&rt, table, &twenty, &row(alloc, 20, 8)?, 6),
+        None => panic!(rt; "no table"),
+    }
+    assert_len(&rt, &tables, &a, 5);
     Ok(())
 }

@@ -1,5 +1,5 @@
 // A journal that is written and read, and copies of its entries.
-use crate::{Entry, Event, Journal, Reply, Request, What};
+use crate::{Entry, Event, Journal, Reply, Request, What, own};
 use std::alloc::Global;
 use std::test::Fail;
 use sx_lists::{Copied, Same};
@@ -54,6 +54,39 @@ fn the_journal_is_written(rt: HostRuntime) -> Result<(), Fail> {
         }
         None => panic!(rt; "no entry"),
     }
+    Ok(())
+}
+
+// A client's entry at the end.
+fn put(journal: &mut Journal, actor: u8, request: Request, reply: Reply) -> Result<(), Fail> {
+    journal.reserve(1)?;
+    journal.append(Entry {
+        actor,
+        event: Event::Client(request),
+        reply,
+    });
+    Ok(())
+}
+
+#[test]
+fn own_entries_are_the_actors_in_order(rt: HostRuntime) -> Result<(), Fail> {
+    let mut journal = Journal::new(rt.alloc());
+    put(&mut journal, 1, Request::Begin, Reply::Begun { txn: 1 })?;
+    put(&mut journal, 2, Request::Begin, Reply::Begun { txn: 2 })?;
+    put(
+        &mut journal,
+        1,
+        Request::Commit,
+        Reply::Committed { lsn: 7 },
+    )?;
+    let first = own(rt.alloc(), &journal, 1)?;
+    assert_eq!(rt; first.len(), 2);
+    match first.at(2) {
+        Some(entry) => assert!(rt; matches!(entry.reply, Reply::Committed { lsn: 7 })),
+        None => panic!(rt; "no entry"),
+    }
+    assert_eq!(rt; own(rt.alloc(), &journal, 2)?.len(), 1);
+    assert_eq!(rt; own(rt.alloc(), &journal, 3)?.len(), 0);
     Ok(())
 }
 

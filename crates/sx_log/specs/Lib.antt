@@ -1,2 +1,4 @@
 pub mod Committed
+pub mod Rows
 pub mod State
+pub mod Undoing

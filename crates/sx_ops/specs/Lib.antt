@@ -1,3 +1,4 @@
 pub mod Checks
+pub mod Disagreements
 pub mod Operators
 pub mod Targets

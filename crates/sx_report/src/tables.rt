@@ -1,13 +1,16 @@
 // Lines of tables.
-ghost use Rattle.std.specs.Prelude.{◌≡◌, ◌++◌, IfOk, OnOk, map, option_to_list};
+ghost use Rattle.std.specs.Prelude.{◌≡◌, ◌++◌, ◌<◌, IfOk, OnOk, map, option_to_list};
 ghost use Rattle.sx_lists.specs.Places.{at_place};
 ghost use Rattle.sx_heap.specs.Relations.{IsRelation};
 ghost use Rattle.sx_report.specs.TableLines.{AreRelations, row_line, row_lines, table_text, tables_text};
 
 use crate::words::put;
 use std::alloc::{AllocError, Global};
+use std::marker::Brand;
+use std::sync::ledger::{Blank, Ledger};
 use sx_heap::{Table, Tables};
 use sx_lists::List;
+use sx_steps::Steps;
 use sx_text::put_record;
 use sx_values::{Name, Row};
 
@@ -59,8 +62,31 @@ fn put_table(alloc: Global, out: &mut Vec<u8>, name: &Name, table: &Table) -> Re
     put(out, b"table ")?;
     put(out, name.as_bytes())?;
     put(out, b"\n")?;
-    let rows = table.rows(alloc)?;
+    let rows = rows(alloc, table)?;
     put_rows(alloc, out, name, rows.as_slice())
+}
+
+// The rows of a table where they stand, in key order. Nobody reads the counter.
+fn rows(alloc: Global, table: &Table) -> Result<Vec<&Row>, AllocError>
+    ensures rows { IfOk result (λ rows. map (λ row. row.now) rows.items ≡ map (λ seen. seen.row) table.now.rows) }
+    ensures relation { IsRelation table.now }
+{
+    counted_rows::<Brand>(alloc, table, Blank::new(1))
+}
+
+fn counted_rows<L: Ledger>(
+    alloc: Global,
+    table: &Table,
+    blank: Blank,
+) -> Result<Vec<&Row>, AllocError>
+    requires name { blank.name ≡ L.name }
+    requires parts { blank.parts ≡ L.parts }
+    requires some { 0 < blank.parts }
+    ensures rows { IfOk result (λ rows. map (λ row. row.now) rows.items ≡ map (λ seen. seen.row) table.now.rows) }
+    ensures relation { IsRelation table.now }
+{
+    let mut steps = Steps::<L>::new(blank);
+    table.rows(alloc, &mut steps)
 }
 
 // Puts a line for each row.

@@ -11,7 +11,7 @@ use Rattle.sx_heap.proofs.WalkLemmas.{walks_on}
 use Rattle.sx_heap.proofs.table.Table.walk.Goals as goal
 
 pub returns-clause-walked : goal.returns-clause-walked
-returns-clause-walked c =
+returns-clause-walked g c =
     let entries = c.self.inside.rows.entries in
     let n = c.args.n in
     let behind =

@@ -1,0 +1,45 @@
+-- Which writes of a transaction are left to undo, and the record of an undo. A log is seen newest first.
+use Rattle.std.specs.Prelude.{◌+◌, ◌==◌, not, ℕ, List, [], ◌∷◌, length, filter, Option, Some, None, if◌then◌else◌}
+use Rattle.sx_lists.specs.Places.{numbered}
+use Rattle.sx_log.specs.declared.record.Rec.{Rec}
+use Rattle.sx_log.specs.declared.record.Body.{Body}
+use Rattle.sx_log.specs.declared.record.Body.TheVariants.{Write, Undo, Commit, Abort, Mark, Check, Switch}
+use Rattle.sx_log.specs.State.{row_left}
+
+-- LSNs without this one
+abbrev pub without_lsn : ℕ → List ℕ → List ℕ
+without_lsn lsn lsns = filter (λ other. not (other == lsn)) lsns
+
+-- the writes left behind a transaction's own record at this place: a Write adds its LSN, an Undo takes away the one that it undoes
+unfoldable pub left_after : ℕ → Body → List ℕ → List ℕ
+left_after lsn (Write table key before after) left = lsn ∷ left
+left_after lsn (Undo undoes table key before after) left = without_lsn undoes left
+left_after lsn Commit left = left
+left_after lsn Abort left = left
+left_after lsn Mark left = left
+left_after lsn (Check group dep) left = left
+left_after lsn Switch left = left
+
+-- the LSNs of a transaction's Write records that no Undo undoes, the last one first
+abbrev pub writes_left : ℕ → List Rec → List ℕ
+writes_left txn [] = []
+writes_left txn (r ∷ past) = if r.txn == txn then left_after (length past + 1) r.body (writes_left txn past) else writes_left txn past
+
+-- the record that undoes a write of this LSN and body behind a log: the image before is the row that the key has now, the image after is what the write found
+unfoldable pub undo_of : List Rec → ℕ → ℕ → Body → Option Rec
+undo_of log txn lsn (Write table key before after) = Some (record { txn = txn; body = Undo lsn table key (row_left log table key) before })
+undo_of log txn lsn other = None
+
+-- the record that undoes the write with this LSN
+abbrev pub undo_at : List Rec → ℕ → ℕ → Option Rec → Option Rec
+undo_at log txn lsn None = None
+undo_at log txn lsn (Some r) = undo_of log txn lsn r.body
+
+-- the record that undoes the last of the writes that are left, if one is left
+abbrev pub undo_last : List Rec → ℕ → List ℕ → Option Rec
+undo_last log txn [] = None
+undo_last log txn (lsn ∷ left) = undo_at log txn lsn (numbered log lsn)
+
+-- the record that a transaction's undo makes, or None where nothing is left to undo
+abbrev pub undo_record : List Rec → ℕ → Option Rec
+undo_record log txn = undo_last log txn (writes_left txn log)
