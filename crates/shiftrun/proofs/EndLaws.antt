@@ -1,5 +1,5 @@
 -- How a call of the program ends, from how its parts do.
-use Rattle.std.proofs.Common.{◌≡◌, ℕ, Bool, List, [], ◌∷◌, length, map, get_or, Option, None, Err, refl, sym, ap, ◌∙◌, subst, inl, inr, codes, string_bytes}
+use Rattle.std.proofs.Common.{◌≡◌, ℕ, Bool, true, false, List, [], ◌∷◌, length, map, get_or, Option, Some, None, Err, refl, sym, ap, ◌∙◌, subst, inl, inr, codes, string_bytes}
 use Rattle.std.specs.Prelude.{IsTrue, bytes_eq, String}
 use Rattle.std.specs.Bool.{Decides}
 use Rattle.std.specs.declared.alloc.Global.{Global}
@@ -9,16 +9,17 @@ use Rattle.sx_io.specs.declared.whole.ReadFault.{ReadFault}
 use Rattle.sx_io.specs.declared.whole.ReadFault.TheVariants.{TooLong}
 use Rattle.sx_io.specs.Whole.{ReadsAll, IsReadWhole, IsReadPast}
 use Rattle.sx_core.specs.Machines.{Machine}
-use Rattle.sx_script.specs.declared.line.Line.{Line}
+use Rattle.sx_lines.specs.declared.line.Line.{Line}
 use Rattle.sx_script.specs.declared.fault.ScriptCause.{ScriptCause}
 use Rattle.sx_script.specs.declared.fault.ScriptFault.{ScriptFault}
 use Rattle.sx_script.specs.declared.fault.ScriptFault.TheVariants.{Bad}
 use Rattle.sx_script.specs.Scripts.{Refuses}
 use Rattle.sx_script.specs.Reading.{script_read}
 use Rattle.shiftrun.specs.declared.status.Status.{Status}
-use Rattle.shiftrun.specs.declared.status.Status.TheVariants.{Reported, Refused, Words, Unread, Unwritten, Memory}
+use Rattle.shiftrun.specs.declared.status.Status.TheVariants.{Reported, Refused, Words, Unread, Unwritten, Memory, Full}
 use Rattle.shiftrun.specs.Outputs.{IsStep, IsOutput, IsOutputOf, most_bytes}
-use Rattle.shiftrun.specs.Endings.{Outside, Ends, StepEnds, PutsOut}
+use Rattle.shiftrun.specs.ReportRuns.{IsRunOf}
+use Rattle.shiftrun.specs.Endings.{Outside, Ends, StepEnds, PutsOut, PutsRun, run_status}
 
 -- a line that is put out, as the output of some status
 line_ends : (words : List (List ℕ)) (before after : Outside) (kept : Option Machine) (text : List ℕ) (status result : Status)
@@ -83,6 +84,7 @@ output_of words left rest bytes text Words kept step read is = absurd is
 output_of words left rest bytes text Unread kept step read is = absurd is
 output_of words left rest bytes text Unwritten kept step read is = absurd is
 output_of words left rest bytes text Memory kept step read is = absurd is
+output_of words left rest bytes text Full kept step read is = (step, record { bytes = bytes; read = read; report = is })
 
 pub step_end : (words : List (List ℕ)) (before after : Outside) (bytes : List ℕ) (kept : Option Machine) (result : Status) → IsStep words → IsReadWhole before.left after.left most_bytes bytes
     → StepEnds bytes before.written after.written before.unwritten after.unwritten kept result → Ends words before after kept result
@@ -100,6 +102,33 @@ step_end words before after bytes kept Unwritten step read ends = record {
   keeps = ends.keeps;
 }
 step_end words before after bytes kept Memory step read ends = record { nothing = ends.0; keeps = ends.1 }
+step_end words before after bytes kept Full step read ends = record { text = ends.text; output = output_of words before.left after.left bytes ends.text Full kept step read ends.output; taken = ends.taken }
+
+-- what is printed for a run
+run_output : (full : Bool) (bytes : List ℕ) (lines : List Line) (machine : Machine) (text : List ℕ) → script_read bytes ≡ Some lines → IsRunOf full lines machine text → IsOutputOf bytes (run_status full) text (Some machine)
+run_output true bytes lines machine text script run = record { lines = lines; script = script; machine = machine; run = run; keeps = refl }
+run_output false bytes lines machine text script run = record { lines = lines; script = script; machine = machine; run = run; keeps = refl }
+
+run_put : (full : Bool) (bytes text : List ℕ) (machine : Machine) (written after : Option (List ℕ)) (before now : ℕ) → IsOutputOf bytes (run_status full) text (Some machine) → Appends written after text → StepEnds bytes written after before now (Some machine) (run_status full)
+run_put true bytes text machine written after before now output taken = record { text = text; output = output; taken = taken }
+run_put false bytes text machine written after before now output taken = record { text = text; output = output; taken = taken }
+
+-- a run's report was put out, in whole or in part
+pub run_ends : (full : Bool) (bytes : List ℕ) (lines : List Line) (machine : Machine) (text : List ℕ) (written after : Option (List ℕ)) (before now : ℕ) (kept : Option Machine) (result : Status)
+    → script_read bytes ≡ Some lines → IsRunOf full lines machine text → PutsRun full machine text written after before now kept result → StepEnds bytes written after before now kept result
+run_ends full bytes lines machine text written after before now kept result script run (inl p) =
+    subst (StepEnds bytes written after before now kept) (sym p.0)
+    (subst (λ k. StepEnds bytes written after before now k (run_status full)) (sym p.1)
+    (run_put full bytes text machine written after before now (run_output full bytes lines machine text script run) p.2))
+run_ends full bytes lines machine text written after before now kept result script run (inr p) = subst (StepEnds bytes written after before now kept) (sym p.0) (record {
+  status = run_status full;
+  text = text;
+  unkept = Some machine;
+  output = run_output full bytes lines machine text script run;
+  taken = p.2.0;
+  front = p.2.1;
+  keeps = p.1;
+})
 
 -- one word, by its test
 pub one_word : (words : List (String Global)) (word : String Global) (told : Bool) → length words ≡ 1 → word ≡ get_or words 0 word → told ≡ bytes_eq (string_bytes word) (codes "step")

@@ -1,6 +1,10 @@
+pub mod CountLaws
 pub mod EndLaws
 pub mod LineLaws
+pub mod MakeLaws
+pub mod PlaceLaws
 pub mod ReportLaws
-pub mod RunLaws
-pub mod ScanLaws
+pub mod RollLaws
 pub mod ScriptFacts
+pub mod StandLaws
+pub mod TransformLaws

@@ -1,154 +1,194 @@
--- A client's line on the machine, and what the last one leaves.
-use Rattle.std.proofs.Common.{◌≡◌, ◌<◌, ◌⊎◌, ℕ, zero, suc, Bool, false, not, List, [], ◌∷◌, length, map, get_or, Some, option_map, refl, sym, ap, ◌∙◌, subst, inl, inr, ⊎_elim, arith, ap₂, ◌+◌}
-use Rattle.std.specs.Prelude.{slice_get}
-use Rattle.std.specs.List.{AllByRecursion}
-use Rattle.std.proofs.lemmas.Option.{slice_get_cases, slice_get_read, slice_get-map}
-use Rattle.sx_ops.specs.declared.spec.Spec.{Spec}
-use Rattle.sx_sync.specs.declared.Strategy.TheVariants.{Blocking}
-use Rattle.sx_sync.specs.declared.Phase.TheVariants.{Idle, Scanning, Chasing, Draining}
+-- A client's line on the machine, from its first request until the client has come past it.
+use Rattle.std.proofs.Common.{◌≡◌, ◌≤◌, ◌<◌, ◌+◌, ◌==◌, ◌++◌, ℕ, zero, suc, false, List, [], ◌∷◌, length, Option, Some, None, option_map, Result, Ok, Err, refl, sym, ap, ◌∙◌, subst, arith, eqb-true}
+use Rattle.std.specs.Prelude.{slice_get, take, drop, IsErrAnd}
+use Rattle.std.proofs.lemmas.Bool.Decides.{nat_tests}
+use Rattle.sx_sync.specs.declared.Phase.TheVariants.{Idle}
 use Rattle.sx_journal.specs.declared.entry.Entry.{Entry}
 use Rattle.sx_journal.specs.declared.entry.Event.{Event}
-use Rattle.sx_journal.specs.declared.entry.Event.TheVariants.{Client, Start}
+use Rattle.sx_journal.specs.declared.entry.Event.TheVariants.{Client}
 use Rattle.sx_journal.specs.declared.entry.Request.{Request}
-use Rattle.sx_journal.specs.declared.entry.Request.TheVariants as request
 use Rattle.sx_journal.specs.declared.entry.Reply.{Reply}
-use Rattle.sx_journal.specs.declared.entry.Reply.TheVariants as reply
-use Rattle.sx_model.specs.Openings.{Opening}
-use Rattle.sx_model.specs.Effects.{Effect, Nothing, Begins, Writes, Commits, effect}
-use Rattle.sx_model.specs.Leaves.{living, without, txn_among, begun, started, phase, phase_after}
-use Rattle.sx_model.specs.Logs.{next_lsn}
-use Rattle.sx_model.specs.Replies.{reply_in, reply_outside, reply_inside}
-use Rattle.sx_model.specs.Legal.{Legal, IsLegalEntry, Allows}
-use Rattle.sx_model.specs.Schedules.{Plan, Line, next_turn, turn_at, propagator_event, client_turn, Turn, Stepped}
-use Rattle.sx_model.proofs.EntryLaws.{living_by}
-use Rattle.sx_model.proofs.LegalLaws.{legal_living}
-use Rattle.sx_model.proofs.Outcomes.{Outcome, rests, begins, writes, commits, starts, sees, conflicts, switches, outcome}
-use Rattle.sx_script.specs.Plans.{is_open, is_open_behind, is_commit}
-use Rattle.sx_script.specs.declared.plan.Asked.{Asked}
-use Rattle.sx_script.specs.Asking.{as_line}
+use Rattle.sx_journal.specs.declared.course.Command.{Command}
+use Rattle.sx_journal.specs.declared.course.Standing.{Standing}
+use Rattle.sx_journal.specs.declared.course.Standing.TheVariants.{AtLine, GaveUp}
+use Rattle.sx_journal.specs.Courses.{Progress, standing_after, request_of, next_at, index_of}
+use Rattle.sx_model.specs.Leaves.{phase}
+use Rattle.sx_model.specs.Legal.{Legal}
+use Rattle.sx_model.specs.Schedules.{Plan, commands_of, standing_of, next_of_lines, client_turn, first_open, open_line, least_living, turn_at, next_turn, Stepped, IsFull}
+use Rattle.sx_model.proofs.TestLaws.{by_cases}
+use Rattle.sx_model.proofs.ScriptLaws.{count_of}
+use Rattle.sx_model.proofs.TurnLaws.{open_behind, none_behind, standing_own, standing_other, standing_forward, client_idle}
 use Rattle.sx_core.specs.Machines.{Machine, Turns}
-use Rattle.shiftrun.specs.Runs.{HasRunLines}
+use Rattle.sx_core.specs.Answers.{Fails}
+use Rattle.sx_core.specs.declared.machine.CoreFault.{CoreFault}
+use Rattle.sx_core.specs.declared.machine.CoreFault.TheVariants.{Memory, Full}
+use Rattle.shiftrun.specs.declared.lines.OwnLine.{OwnLine}
+use Rattle.shiftrun.specs.Runs.{Runs, HasStopped, ComesTo}
+use Rattle.shiftrun.specs.Lines.{progress_of, clients_of, times, own_lines, HavePassed, StandsAt, IsDue, GoesOn, IsNoted}
+use Rattle.shiftrun.proofs.PlaceLaws.{split_at, take_next, take_whole, times_own, times_other, times_count, times_all, LineAt, line_at, own_at}
 
-pub phase_by : (past : List Entry) (e : Entry) (f : Effect) → effect e.reply ≡ f → phase (e ∷ past) ≡ phase_after (started past) f (phase past)
-phase_by past e f told = ap (λ g. phase_after (started past) g (phase past)) told
+-- the opening of a machine and its turns go on with a turn that is the next one
+pub turned : (plan : Plan) (old new : Machine) (actor : ℕ) (event : Event) (answer : Reply) → Runs plan old → next_turn plan old.past ≡ Some (record { actor = actor; event = event }) → Turns old new actor event answer → Runs plan new
+turned plan old new actor event answer runs next turn = record {
+  opening = turn.opening ∙ runs.opening;
+  legal = turn.legal;
+  stepped = subst (Stepped plan) (sym turn.entry) (runs.stepped, next);
+}
 
--- a turn's entry, on the journal before it
-abbrev pub entry_of : ℕ → Request → Reply → Entry
-entry_of actor asked answer = record { actor = actor; event = Client asked; reply = answer }
+-- the last entry of a machine's journal is that of the turn, and legal
+pub turned_legal : (old new : Machine) (actor : ℕ) (event : Event) (answer : Reply) → Turns old new actor event answer → Legal old.opening (record { actor = actor; event = event; reply = answer } ∷ old.past)
+turned_legal old new actor event answer turn = subst (λ p. Legal old.opening p) turn.entry (subst (λ o. Legal o new.past) turn.opening turn.legal)
 
-busy_scanning : (past : List Entry) → phase past ≡ Idle → phase past ≡ Scanning → ⊥
-busy_scanning past idle busy = cc
+-- a client's turn leaves the phase Idle
+pub turned_idle : (old new : Machine) (client : ℕ) (asked : Request) (answer : Reply) → Turns old new client (Client asked) answer → phase new.past ≡ Idle
+turned_idle old new client asked answer turn =
+    let e : Entry = record { actor = client; event = Client asked; reply = answer } in
+    ap phase turn.entry ∙ client_idle old.opening old.past e asked (turned_legal old new client (Client asked) answer turn) refl
 
-busy_scanned : (past : List Entry) → phase past ≡ Idle → (phase past ≡ Chasing) ⊎ (phase past ≡ Draining) → ⊥
-busy_scanned past idle (inl busy) = cc
-busy_scanned past idle (inr busy) = cc
+-- the line whose turn has come is the open one, as long as its client hasn't come past it
+due_open : (plan : Plan) (machine : Machine) (course : Progress) (line : OwnLine) (due : IsDue plan machine course line) (at : LineAt plan.lines due.done line.client) → index_of (standing_of plan line.client machine.past) ≤ line.index → open_line plan machine.past ≡ Some at.line
+due_open plan machine course line due at here =
+    let passed : ℕ → ℕ = λ client. index_of (standing_of plan client machine.past) in
+    let enough : (client : ℕ) → count_of client (take due.done plan.lines) ≤ passed client = λ client. subst (λ n. n ≤ passed client) (times_count client due.done plan.lines) (due.passed client) in
+    let is_index : line.index ≡ count_of line.client (take due.done plan.lines) = due.index ∙ times_count line.client due.done plan.lines in
+    let few : passed line.client ≤ count_of line.client (take due.done plan.lines) = subst (λ n. passed line.client ≤ n) is_index here in
+    let few_there : passed at.line.client ≤ count_of at.line.client (take due.done plan.lines) = subst (λ n. passed n ≤ count_of n (take due.done plan.lines)) (sym at.of_client) few in
+    subst (λ lines. first_open lines passed ≡ Some at.line) (split_at plan.lines due.done at.line at.here) (open_behind (take due.done plan.lines) at.line (drop (due.done + 1) plan.lines) passed enough few_there)
 
-not_start : (asked : Request) (spec : Spec) (e : Entry) → e.event ≡ Client asked → e.event ≡ Start spec Blocking → ⊥
-not_start asked spec e one other = cc
+-- so the next turn is its client's next request
+pub due_next : (plan : Plan) (machine : Machine) (course : Progress) (line : OwnLine) (asked : Request) → IsDue plan machine course line → index_of course.standing ≤ line.index → next_at course.commands course.standing ≡ Some asked → next_turn plan machine.past ≡ Some (client_turn line.client asked)
+due_next plan machine course line asked due here next =
+    let at = line_at plan.lines due.done line.client due.here in
+    let place : index_of (standing_of plan line.client machine.past) ≤ line.index = subst (λ (p : Progress). index_of p.standing ≤ line.index) due.is_course here in
+    let open_one = due_open plan machine course line due at place in
+    let own_next : next_of_lines plan line.client machine.past ≡ Some asked = sym (ap (λ (p : Progress). next_at p.commands p.standing) due.is_course) ∙ next in
+    ap (λ found. turn_at plan machine.past found (least_living machine.past)) open_one
+    ∙ (ap (λ client. option_map (client_turn client) (next_of_lines plan client machine.past)) at.of_client
+    ∙ ap (option_map (client_turn line.client)) own_next)
 
--- a client's turn starts nothing
-idle_after : (o : Opening) (past : List Entry) (e : Entry) (asked : Request) → e.event ≡ Client asked → phase past ≡ Idle → Outcome o past e → phase (e ∷ past) ≡ Idle
-idle_after o past e asked is idle (rests told) = phase_by past e Nothing told ∙ idle
-idle_after o past e asked is idle (begins b) = phase_by past e (Begins (begun past + 1)) b.told ∙ idle
-idle_after o past e asked is idle (writes w) = phase_by past e Writes w.told ∙ idle
-idle_after o past e asked is idle (commits c) = phase_by past e Commits c.told ∙ idle
-idle_after o past e asked is idle (starts s) = absurd (not_start asked s.spec e is s.asked)
-idle_after o past e asked is idle (sees s) = absurd (busy_scanning past idle s.turn.scanning)
-idle_after o past e asked is idle (conflicts a told) = absurd (busy_scanned past idle a.scanned)
-idle_after o past e asked is idle (switches a told) = absurd (busy_scanned past idle a.scanned)
+-- a client that has lines left has a next request
+some_at : {T : Type 0} (xs : List T) (k : ℕ) → k < length xs → slice_get xs k ≡ None → ⊥
+some_at [] k within none = absurd (omega arith)
+some_at (x ∷ xs) zero within none = cc
+some_at (x ∷ xs) (suc k) within none = some_at xs k (omega arith) none
 
--- the last entry of a legal journal is legal behind the others
-pub legal_entry : (o opening : Opening) (past after : List Entry) (e : Entry) → o ≡ opening → after ≡ e ∷ past → Legal o after → IsLegalEntry opening past e
-legal_entry o opening past after e same is legal = (subst (λ p. Legal opening p) is (subst (λ q. Legal q after) same legal)).1
+none_mapped : {A B : Type 0} (f : A → B) (found : Option A) → option_map f found ≡ None → found ≡ None
+none_mapped f None none = refl
+none_mapped f (Some x) none = absurd (cc)
 
--- what holds of each item holds of the one at a place
-pub all_at : {T : Type 0} (P : T → Type 0) (xs : List T) (k : ℕ) (x : T) → AllByRecursion P xs → slice_get xs k ≡ Some x → P x
-all_at P [] k x all is = absurd (cc)
-all_at P (y ∷ ys) zero x all is = let same : y ≡ x = cc in subst P same all.0
-all_at P (y ∷ ys) (suc k) x all is = all_at P ys k x all.1 is
+pub has_next : (commands : List Command) (standing : Standing) → index_of standing < length commands → next_at commands standing ≡ None → ⊥
+has_next commands (AtLine index held) within none = some_at commands index within (none_mapped (λ (c : Command). request_of c.what) (slice_get commands index) none)
+has_next commands (GaveUp index) within none = cc
 
--- what is asked at a place is the line there
-pub asked_line : (lines : List Line) (shown items : List Asked) (k : ℕ) (item : Asked) → map as_line shown ≡ lines → items ≡ shown → item ≡ get_or items k item → k < length items → slice_get lines k ≡ Some (as_line item)
-asked_line lines shown items k item are same is within =
-    ap (λ ls. slice_get ls k) (sym are) ∙ (ap (λ xs. slice_get (map as_line xs) k) (sym same) ∙ (slice_get-map as_line items k ∙ ap (option_map as_line) (slice_get_read items (length items) k item refl within is)))
+-- an entry leads no client back, and only its own client on
+pub goes_by : (plan : Plan) (e : Entry) (past : List Entry) → GoesOn plan e.actor past (e ∷ past)
+goes_by plan e past = record {
+  forward = λ other. standing_forward plan other e past;
+  others = λ other differs. standing_other plan other e past (let swapped : (e.actor == other) ≡ false = grind (arith, nat_tests) in swapped);
+}
 
--- the next line is a client's next turn
-pub line_turn : (plan : Plan) (k : ℕ) (old new : Machine) (line : Line) (answer : Reply)
-    → HasRunLines plan k old → slice_get plan.lines k ≡ Some line → Turns old new line.client (Client line.asked) answer → HasRunLines plan (k + 1) new
-line_turn plan k old new line answer has is turn = record {
-  runs = record {
-    opening = turn.opening ∙ has.runs.opening;
-    legal = turn.legal;
-    stepped = subst (Stepped plan) (sym turn.entry) (has.runs.stepped, next);
-  };
-  count = (let more : length new.past ≡ suc (length old.past) = ap length turn.entry in let count = has.count in omega arith);
-  idle = ap phase turn.entry ∙ idle_after old.opening old.past (entry_of line.client line.asked answer) line.asked refl has.idle (outcome old.opening old.past (entry_of line.client line.asked answer) (legal_entry new.opening old.opening old.past new.past (entry_of line.client line.asked answer) turn.opening turn.entry turn.legal));
+pub goes_nowhere : (plan : Plan) (client : ℕ) (past : List Entry) → GoesOn plan client past past
+goes_nowhere plan client past = record { forward = λ other. omega arith; others = λ other differs. refl }
+
+pub goes_further : (plan : Plan) (client : ℕ) (before between after : List Entry) → GoesOn plan client before between → GoesOn plan client between after → GoesOn plan client before after
+goes_further plan client before between after one two = record {
+  forward = λ other. (let h = one.forward other in let more = two.forward other in omega arith);
+  others = λ other differs. two.others other differs ∙ one.others other differs;
+}
+
+-- the lines that were passed stay so
+pub still_passed : (plan : Plan) (client done : ℕ) (before after : List Entry) → GoesOn plan client before after → HavePassed plan done before → HavePassed plan done after
+still_passed plan client done before after goes passed = λ other. (let h = passed other in let more = goes.forward other in omega arith)
+
+-- a client's request that was noted leaves the line due
+pub noted_due : (plan : Plan) (old new : Machine) (before after : Progress) (line : OwnLine) (asked : Request)
+    → IsDue plan old before line → index_of before.standing ≤ line.index → next_at before.commands before.standing ≡ Some asked → IsNoted old new before after line.client asked
+    → IsDue plan new after line
+noted_due plan old new before after line asked due here next noted = record {
+  runs = turned plan old new line.client (Client asked) noted.reply due.runs (due_next plan old before line asked due here next) noted.turn;
+  is_course = course;
+  done = due.done;
+  here = due.here;
+  index = due.index;
+  passed = still_passed plan line.client due.done old.past new.past goes due.passed;
 }
   where
-    at_place : slice_get plan.lines (length old.past) ≡ Some line
-    at_place = ap (slice_get plan.lines) has.count ∙ is
+    e : Entry
+    e = record { actor = line.client; event = Client asked; reply = noted.reply }
 
-    next : next_turn plan old.past ≡ Some (record { actor = line.client; event = Client line.asked })
-    next = ap (λ found. turn_at found (propagator_event plan.change plan.strategy (phase old.past))) at_place
+    goes : GoesOn plan line.client old.past new.past
+    goes = subst (GoesOn plan line.client old.past) (sym noted.turn.entry) (goes_by plan e old.past)
 
--- whether a block is open is told by the last request
-open_last : (b : Bool) (lines : List Line) (k : ℕ) (line : Line) → slice_get lines k ≡ Some line → suc k ≡ length lines → is_open_behind b lines ≡ not (is_commit line.asked)
-open_last b [] k line is last = absurd (cc)
-open_last b (x ∷ []) zero line is last = let same : x ≡ line = cc in ap (λ (l : Line). not (is_commit l.asked)) same
-open_last b (x ∷ y ∷ ys) zero line is last = absurd (cc)
-open_last b (x ∷ xs) (suc k) line is last = open_last (not (is_commit x.asked)) xs k line is (let e : suc k ≡ length xs = cc in e)
+    stands : standing_of plan line.client new.past ≡ standing_after (commands_of plan line.client) plan.retries (standing_of plan line.client old.past) noted.reply
+    stands = ap (standing_of plan line.client) noted.turn.entry ∙ standing_own plan line.client e old.past refl
 
-commit_asked : (asked : Request) → not (is_commit asked) ≡ false → asked ≡ request.Commit
-commit_asked request.Begin e = absurd (cc)
-commit_asked (request.Read table key) e = absurd (cc)
-commit_asked (request.Insert table row) e = absurd (cc)
-commit_asked (request.Update table row) e = absurd (cc)
-commit_asked (request.Delete table key) e = absurd (cc)
-commit_asked request.Commit e = refl
-commit_asked request.Undo e = absurd (cc)
+    course : after ≡ progress_of plan line.client new.past
+    course = noted.course ∙ (ap (λ (p : Progress). record { commands = p.commands; retries = p.retries; standing = standing_after p.commands p.retries p.standing noted.reply }) due.is_course
+        ∙ ap (λ s. record { commands = commands_of plan line.client; retries = plan.retries; standing = s }) (sym stands))
 
--- behind a commit nobody lives
-commit_rests : (o : Opening) (past : List Entry) (actor : ℕ) (answer : Reply) → Legal o past → Allows o past actor (Client request.Commit) answer → living (entry_of actor request.Commit answer ∷ past) ≡ []
-unfolding Allows effect reply_outside reply_inside
-commit_rests o past actor answer legal allowed = by (legal_living o past legal)
-  where
-    client : actor ≡ 1
-    client = allowed.client
+pub noted_goes : (plan : Plan) (old new : Machine) (before after : Progress) (client : ℕ) (asked : Request) → IsNoted old new before after client asked → GoesOn plan client old.past new.past
+noted_goes plan old new before after client asked noted = subst (GoesOn plan client old.past) (sym noted.turn.entry) (goes_by plan (record { actor = client; event = Client asked; reply = noted.reply }) old.past)
 
-    answered : reply_in o past (txn_among (living past) actor) request.Commit ≡ Some answer
-    answered = allowed.answered
+-- a request that doesn't fit into the journal stops the run
+pub stops : (plan : Plan) (machine : Machine) (actor : ℕ) (event : Event) → Runs plan machine → next_turn plan machine.past ≡ Some (record { actor = actor; event = event }) → IsFull machine.opening machine.past actor event → HasStopped plan machine
+stops plan machine actor event runs next full = record {
+  runs = runs;
+  stopped = record {
+    due = record { actor = actor; event = event };
+    next = next;
+    full = subst (λ o. IsFull o machine.past actor event) runs.opening full;
+  };
+}
 
-    by : (living past ≡ []) ⊎ ((txn : ℕ) × (living past ≡ record { client = 1; txn = txn } ∷ [])) → living (entry_of actor request.Commit answer ∷ past) ≡ []
-    by (inl none) =
-        let told : reply_outside past request.Commit ≡ answer = some_is (sym (ap (λ xs. reply_in o past (txn_among xs actor) request.Commit) none) ∙ answered) in
-        living_by past (entry_of actor request.Commit answer) Nothing (ap effect (sym told)) ∙ none
-      where
-        some_is : Some (reply_outside past request.Commit) ≡ Some answer → reply_outside past request.Commit ≡ answer
-        some_is e = cc
-    by (inr l) =
-        let told : reply.Committed (next_lsn o past) ≡ answer = some_is (sym (ap₂ (λ xs n. reply_in o past (txn_among xs n) request.Commit) l.1 client) ∙ answered) in
-        living_by past (entry_of actor request.Commit answer) Commits (ap effect (sym told)) ∙ (ap₂ without client l.1)
-      where
-        some_is : Some (reply.Committed (next_lsn o past)) ≡ Some answer → reply.Committed (next_lsn o past) ≡ answer
-        some_is e = cc
+-- the first line's client and index, by their place
+pub due_at : (plan : Plan) (k : ℕ) (machine : Machine) (courses : List Progress) (line : OwnLine) (course : Progress) → StandsAt plan k machine courses → slice_get (own_lines [] (clients_of plan)) k ≡ Some line → course ≡ progress_of plan line.client machine.past → IsDue plan machine course line
+due_at plan k machine courses line course stands is same =
+    let at = own_at [] (clients_of plan) k line is in
+    record { runs = stands.runs; is_course = same; done = k; here = at.here; index = at.index; passed = stands.passed }
 
--- the journal of a script whose last block is closed: its newest entry is a commit, if it has one
-rests_after : (plan : Plan) (o : Opening) (past : List Entry) → Legal o past → Stepped plan past → length past ≡ length plan.lines → is_open plan ≡ false → living past ≡ []
-rests_after plan o [] legal stepped all closed = refl
-rests_after plan o (e ∷ past) legal stepped all closed =
-    ⊎_elim (λ found. behind_line found.0 found.2) (λ beyond. absurd (let over = beyond.0 in let more : suc (length past) ≡ length plan.lines = all in omega arith)) (slice_get_cases plan.lines (length past)).1
-  where
-    told : (line : Line) → Some (client_turn line) ≡ Some (record { actor = e.actor; event = e.event }) → e.event ≡ Client line.asked
-    told line h = let same : client_turn line ≡ record { actor = e.actor; event = e.event } = cc in ap (λ (t : Turn). t.event) (sym same)
+-- a line that is passed brings the machine behind the next place
+pub passed_next : (plan : Plan) (k : ℕ) (before after : List Entry) (line : OwnLine) → HavePassed plan k before → GoesOn plan line.client before after → slice_get (own_lines [] (clients_of plan)) k ≡ Some line → line.index < index_of (standing_of plan line.client after) → HavePassed plan (k + 1) after
+passed_next plan k before after line passed goes is beyond other =
+    let at = own_at [] (clients_of plan) k line is in
+    let front : take (k + 1) (clients_of plan) ≡ take k (clients_of plan) ++ line.client ∷ [] = take_next (clients_of plan) k line.client at.here in
+    subst (λ clients. times other clients ≤ index_of (standing_of plan other after)) (sym front)
+    (by_cases (line.client == other)
+    (λ mine.
+    let count = times_own other (take k (clients_of plan)) line.client mine in
+    let same : line.client ≡ other = eqb-true line.client other mine in
+    let index : line.index ≡ times other (take k (clients_of plan)) = at.index ∙ ap (λ n. times n (take k (clients_of plan))) same in
+    let more : line.index < index_of (standing_of plan other after) = subst (λ n. line.index < index_of (standing_of plan n after)) same beyond in
+    omega arith)
+    (λ differs.
+    let count = times_other other (take k (clients_of plan)) line.client differs in
+    let h = passed other in
+    let further = goes.forward other in
+    omega arith))
 
-    behind_line : (line : Line) → slice_get plan.lines (length past) ≡ Some line → living (e ∷ past) ≡ []
-    behind_line line is =
-        let next = sym (ap (λ found. turn_at found (propagator_event plan.change plan.strategy (phase past))) is) ∙ stepped.1 in
-        let commit : line.asked ≡ request.Commit = commit_asked line.asked (sym (open_last false plan.lines (length past) line is all) ∙ closed) in
-        let event : e.event ≡ Client request.Commit = told line next ∙ ap Client commit in
-        subst (λ (asked : Event). living (record { actor = e.actor; event = asked; reply = e.reply } ∷ past) ≡ []) (sym event)
-        (commit_rests o past e.actor e.reply legal.0 (subst (λ (asked : Event). Allows o past e.actor asked e.reply) event legal.1.allowed))
+-- behind all lines none is open
+pub all_passed : (plan : Plan) (k : ℕ) (past : List Entry) → HavePassed plan k past → length (clients_of plan) ≤ k → open_line plan past ≡ None
+all_passed plan k past passed over = none_behind plan.lines (λ client. index_of (standing_of plan client past)) (λ client.
+    subst (λ n. n ≤ index_of (standing_of plan client past)) (times_all client plan.lines)
+    (subst (λ clients. times client clients ≤ index_of (standing_of plan client past)) (take_whole (clients_of plan) k over) (passed client)))
 
--- a machine that has worked through all lines of a script that was read has no live transaction
-pub at_rest : (plan : Plan) (machine : Machine) → HasRunLines plan (length plan.lines) machine → is_open plan ≡ false → living machine.past ≡ []
-at_rest plan machine has closed = rests_after plan machine.opening machine.past has.runs.legal has.runs.stepped has.count closed
+-- a turn that failed: memory ran out, or the run stops here
+pub fails_stop : {A : Type 0} (Reached : A → Type 0) (plan : Plan) (old new : Machine) (actor : ℕ) (event : Event) (fault : CoreFault) → (IsFull old.opening old.past actor event → HasStopped plan old) → Fails old new actor event fault → ComesTo Reached plan new (Err fault)
+fails_stop Reached plan old new actor event Memory full fails = tt
+fails_stop Reached plan old new actor event Full full fails = subst (HasStopped plan) (sym fails.0) (full fails.1)
+
+pub memory_stops : {A : Type 0} (Reached : A → Type 0) (plan : Plan) (machine : Machine) (fault : CoreFault) → fault ≡ Memory → ComesTo Reached plan machine (Err fault)
+memory_stops Reached plan machine fault is = subst (λ f. ComesTo Reached plan machine (Err f)) (sym is) tt
+
+-- a part that failed, within a whole that fails as it did
+pub part_stops : {A B : Type 0} (Reached : A → Type 0) (Whole : B → Type 0) (plan : Plan) (machine : Machine) (fault : CoreFault) → ComesTo Reached plan machine (Err fault) → ComesTo Whole plan machine (Err fault)
+part_stops Reached Whole plan machine Memory comes = tt
+part_stops Reached Whole plan machine Full comes = comes
+
+-- a part that failed, within a whole that hands its fault on
+pub hands_on : {A : Type 0} (Reached : A → Type 0) (plan : Plan) (machine : Machine) (result : Result A CoreFault) (fault : CoreFault) → IsErrAnd result (λ e. e ≡ fault) → ComesTo Reached plan machine (Err fault) → ComesTo Reached plan machine result
+hands_on Reached plan machine (Ok done) fault is comes = absurd is
+hands_on Reached plan machine (Err other) fault is comes = subst (λ f. ComesTo Reached plan machine (Err f)) (sym is) comes
+
+-- the same of a turn
+pub turn_fails : {A : Type 0} (Reached : A → Type 0) (plan : Plan) (old new : Machine) (result : Result A CoreFault) (actor : ℕ) (event : Event) (fault : CoreFault) → IsErrAnd result (λ e. e ≡ fault) → (IsFull old.opening old.past actor event → HasStopped plan old) → Fails old new actor event fault → ComesTo Reached plan new result
+turn_fails Reached plan old new result actor event fault is full fails = hands_on Reached plan new result fault is (fails_stop Reached plan old new actor event fault full fails)

@@ -1,13 +1,13 @@
 -- What the report of a whole run shows.
-use Rattle.std.specs.Prelude.{◌≡◌, ℕ, List, [], Some, MatchOption}
+use Rattle.std.specs.Prelude.{◌≡◌, Bool, true, false, ℕ, List, [], Some, MatchOption}
 use Rattle.sx_ops.specs.declared.spec.Spec.{Spec}
 use Rattle.sx_ops.specs.Operators.{targets_of}
 use Rattle.sx_heap.specs.declared.tables.NamedTable.{NamedTable}
 use Rattle.sx_heap.specs.NamedTables.{names_of_tables}
 use Rattle.sx_model.specs.Leaves.{Started, started}
-use Rattle.sx_model.specs.Schedules.{own}
+use Rattle.sx_model.specs.Schedules.{Plan, own}
 use Rattle.sx_model.specs.Tables.{AreNewTables, AreCommittedNewTables}
-use Rattle.sx_script.specs.declared.line.Line.{Line}
+use Rattle.sx_lines.specs.declared.line.Line.{Line}
 use Rattle.sx_script.specs.Plans.{plan_of}
 use Rattle.sx_core.specs.Machines.{Machine}
 use Rattle.sx_core.specs.Kept.{plain_rows}
@@ -16,7 +16,7 @@ use Rattle.sx_report.specs.declared.end.ReportEnd.{ReportEnd}
 use Rattle.sx_report.specs.declared.end.ReportEnd.TheVariants as report
 use Rattle.shiftrun.specs.declared.end.End.{End}
 use Rattle.shiftrun.specs.declared.end.End.TheVariants.{NoChange, Violated, Switched}
-use Rattle.shiftrun.specs.Runs.{HasRun, end_of}
+use Rattle.shiftrun.specs.Runs.{HasRun, HasStopped, end_of}
 
 -- how the report says that a run ended
 abbrev pub report_end : End → ReportEnd
@@ -43,3 +43,19 @@ pub record IsRun (lines : List Line) (machine : Machine) (text : List ℕ) : Typ
   pub run : HasRun (plan_of lines) machine
   pub report : IsReport lines machine (report_end (end_of (plan_of lines).change)) text
   pub transformed : MatchOption (plan_of lines).change (IsUntouched machine report.new_tables) (λ spec. AreTransformed machine spec report.new_tables)
+
+-- a machine whose journal is full before the script's end, and the report of that
+pub record IsStoppedRun (lines : List Line) (machine : Machine) (text : List ℕ) : Type 0 where
+  pub stopped : HasStopped (plan_of lines) machine
+  pub report : IsReport lines machine report.Full text
+  pub no_new_tables : report.new_tables ≡ []
+
+-- the run of a script to its end, or as far as its journal goes, by whether this was full
+abbrev pub IsRunOf : Bool → List Line → Machine → List ℕ → Type 0
+IsRunOf false lines machine text = IsRun lines machine text
+IsRunOf true lines machine text = IsStoppedRun lines machine text
+
+-- how a machine's run has ended, by whether its journal was full before the script's end
+abbrev pub RanTo : Bool → Plan → Machine → ReportEnd → Type 0
+RanTo false plan machine end = HasRun plan machine × (end ≡ report_end (end_of plan.change))
+RanTo true plan machine end = HasStopped plan machine × (end ≡ report.Full)

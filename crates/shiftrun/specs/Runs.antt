@@ -1,13 +1,18 @@
 -- How far a machine has come with a script.
-use Rattle.std.specs.Prelude.{◌≡◌, ℕ, [], length, Option, Some, None}
+use Rattle.std.specs.Prelude.{◌≡◌, ⊤, ℕ, [], Option, Some, None, Result, Ok, Err}
 use Rattle.sx_ops.specs.declared.spec.Spec.{Spec}
+use Rattle.sx_sync.specs.declared.Strategy.TheVariants.{Blocking}
+use Rattle.sx_sync.specs.declared.Phase.{Phase}
 use Rattle.sx_sync.specs.declared.Phase.TheVariants.{Idle}
 use Rattle.sx_model.specs.Leaves.{living, phase}
 use Rattle.sx_model.specs.Legal.{Legal}
-use Rattle.sx_model.specs.Schedules.{Plan, opening_of, Stepped, IsComplete}
+use Rattle.sx_model.specs.Schedules.{Plan, opening_of, open_line, Stepped, IsComplete, IsStopped}
 use Rattle.sx_journal.specs.declared.entry.Event.{Event}
 use Rattle.sx_journal.specs.declared.entry.Reply.{Reply}
 use Rattle.sx_core.specs.Machines.{Machine, Turns}
+use Rattle.sx_core.specs.Answers.{Fails}
+use Rattle.sx_core.specs.declared.machine.CoreFault.{CoreFault}
+use Rattle.sx_core.specs.declared.machine.CoreFault.TheVariants.{Memory, Full}
 use Rattle.shiftrun.specs.declared.end.End.{End}
 use Rattle.shiftrun.specs.declared.end.End.TheVariants.{NoChange, Switched}
 
@@ -17,11 +22,16 @@ pub record Runs (plan : Plan) (machine : Machine) : Type 0 where
   pub legal : Legal machine.opening machine.past
   pub stepped : Stepped plan machine.past
 
--- a machine that has worked through the first lines, and has started nothing
-pub record HasRunLines (plan : Plan) (lines : ℕ) (machine : Machine) : Type 0 where
+-- a machine that has worked through all lines, and has started nothing
+pub record HasRunLines (plan : Plan) (machine : Machine) : Type 0 where
   pub runs : Runs plan machine
-  pub count : length machine.past ≡ lines
+  pub worked : open_line plan machine.past ≡ None
   pub idle : phase machine.past ≡ Idle
+
+-- a machine that has besides rolled back every transaction that lived
+pub record HasRolledBack (plan : Plan) (machine : Machine) : Type 0 where
+  pub lines : HasRunLines plan machine
+  pub rest : living machine.past ≡ []
 
 -- a machine that has run a script to its end, where nobody lives
 pub record HasRun (plan : Plan) (machine : Machine) : Type 0 where
@@ -29,12 +39,42 @@ pub record HasRun (plan : Plan) (machine : Machine) : Type 0 where
   pub rest : living machine.past ≡ []
   pub complete : IsComplete plan machine.past
 
+-- a machine whose journal is full before the script's end
+pub record HasStopped (plan : Plan) (machine : Machine) : Type 0 where
+  pub runs : Runs plan machine
+  pub stopped : IsStopped plan machine.past
+
 -- a turn of the machine, whatever its answer
 pub record Takes (old new : Machine) (actor : ℕ) (event : Event) : Type 0 where
   pub reply : Reply
   pub turn : Turns old new actor event reply
 
+-- an event was taken from the machine, or it failed and changed nothing
+abbrev pub IsTaken : (old new : Machine) → ℕ → Event → Result Unit CoreFault → Type 0
+IsTaken old new actor event (Ok done) = Takes old new actor event
+IsTaken old new actor event (Err fault) = Fails old new actor event fault
+
+-- a machine behind the rollbacks, at a phase of the script's transformation
+pub record Transforms (plan : Plan) (spec : Spec) (at : Phase) (machine : Machine) : Type 0 where
+  pub runs : Runs plan machine
+  pub worked : open_line plan machine.past ≡ None
+  pub rest : living machine.past ≡ []
+  pub change : plan.change ≡ Some spec
+  pub blocking : plan.strategy ≡ Blocking
+  pub phase_is : phase machine.past ≡ at
+
 -- how a run ends, by whether the script asks for a transformation
 abbrev pub end_of : Option Spec → End
 end_of None = NoChange
 end_of (Some spec) = Switched
+
+-- what a part of a run leaves: what it is to come to, or a full journal; of the machine nothing is said where memory ran out
+abbrev pub ComesTo : {A : Type 0} → (A → Type 0) → Plan → Machine → Result A CoreFault → Type 0
+ComesTo Reached plan machine (Ok done) = Reached done
+ComesTo Reached plan machine (Err Memory) = ⊤
+ComesTo Reached plan machine (Err Full) = HasStopped plan machine
+
+-- a script was run to its end, which is this one
+pub record IsEnd (plan : Plan) (machine : Machine) (end : End) : Type 0 where
+  pub run : HasRun plan machine
+  pub ends : end ≡ end_of plan.change

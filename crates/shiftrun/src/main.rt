@@ -2,12 +2,16 @@
 #![tactic(auto)]
 
 mod end;
+mod finish;
+mod lines;
 mod run;
 mod shift;
 mod status;
+mod turn;
 
 pub use end::End;
-pub use run::{finish, step_all};
+pub use finish::finish;
+pub use lines::step_all;
 pub use shift::{Word, shift, shift_alone};
 use status::Status;
 use std::process::ExitCode;
@@ -39,5 +43,7 @@ fn words(rt: &HostRuntime) -> io::Result<Vec<Word>> {
     Ok(words)
 }
 
+#[cfg(test)]
+mod client_tests;
 #[cfg(test)]
 mod tests;

@@ -1,13 +1,13 @@
 // The top call: from words and bytes to bytes and a status.
 ghost use Rattle.std.specs.Prelude.{◌≡◌, ◌↔◌, IsTrue, None, map, string_bytes};
 ghost use Rattle.shiftrun.specs.Outputs.{IsStep};
-ghost use Rattle.shiftrun.specs.Endings.{Ends, EndsWith, StepEnds, PutsOut};
+ghost use Rattle.shiftrun.specs.Endings.{Ends, EndsWith, StepEnds, PutsOut, PutsRun};
 
-use crate::run::run_script;
+use crate::run::{Run, run_script};
 use crate::status::Status;
-use std::alloc::Global;
-use sx_core::{Core, CoreFault};
-use sx_io::{ReadFault, Sink, Source, read_all, write_all};
+use std::alloc::{AllocError, Global};
+use sx_core::Core;
+use sx_io::{ReadFault, Sink, Source, WriteFault, read_all, write_all};
 use sx_script::{ScriptFault, parse_script};
 
 /// A word of the command line.
@@ -81,18 +81,26 @@ fn step<K: Sink>(alloc: Global, bytes: &[u8], sink: &mut K, kept: &mut Option<Co
 {
     match parse_script(alloc, bytes) {
         Ok(script) => match run_script(alloc, &script) {
-            Ok(done) => match write_all(sink, done.text.as_slice()) {
-                Ok(()) => {
-                    *kept = Some(done.core);
-                    Status::Reported
-                }
-                Err(_) => Status::Unwritten,
-            },
-            Err(CoreFault::Memory) => Status::Memory,
-            Err(CoreFault::Full) => unreachable!(),
+            Ok(run) => put_run(run, sink, kept),
+            Err(AllocError) => Status::Memory,
         },
         Err(ScriptFault::Memory) => Status::Memory,
         Err(ScriptFault::Bad { .. }) => put(sink, b"fault 0 later\n", Status::Refused),
+    }
+}
+
+// Puts a run's report out, and keeps its machine where all of it was taken.
+fn put_run<K: Sink>(run: Run, sink: &mut K, kept: &mut Option<Core>) -> Status
+    requires { kept.old ≡ None }
+    ensures { PutsRun run.is_full run.core run.text (K.written sink.old) (K.written sink.new) (K.faults sink.old) (K.faults sink.new) kept.new result }
+{
+    match write_all(sink, run.text.as_slice()) {
+        Ok(()) => {
+            let status = run.status();
+            *kept = Some(run.core);
+            status
+        }
+        Err(_) => Status::Unwritten,
     }
 }
 
@@ -102,6 +110,6 @@ fn put<K: Sink>(sink: &mut K, text: &[u8], status: Status) -> Status
 {
     match write_all(sink, text) {
         Ok(()) => status,
-        Err(_) => Status::Unwritten,
+        Err(WriteFault { .. }) => Status::Unwritten,
     }
 }

@@ -17,6 +17,8 @@ pub enum Status {
     Unwritten,
     /// Memory ran out.
     Memory,
+    /// The report of a script is printed that filled the journal before its end.
+    Full,
 }
 
 impl Status {
@@ -31,6 +33,7 @@ impl Status {
             Status::Unread => 3,
             Status::Unwritten => 4,
             Status::Memory => 5,
+            Status::Full => 7,
         }
     }
 }

@@ -34,7 +34,8 @@ use Rattle.sx_ops.specs.Targets.{targets}
 use Rattle.sx_journal.specs.declared.entry.Entry.{Entry}
 use Rattle.sx_model.specs.Switches.{has_lock_on}
 use Rattle.sx_model.specs.Tables.{AreRowLists}
-use Rattle.sx_core.specs.Kept.{TablesMeet, plain_rows}
+use Rattle.sx_txn.specs.Managed.{AreTables}
+use Rattle.sx_core.specs.Kept.{shapes_of, plain_rows}
 use Rattle.sx_core.specs.FreshTables.{unstamped, fresh_table, fresh_tables}
 use Rattle.sx_core.specs.Exchanges.{source_table, source_schema, bare_rows, target_names, AreInOrder, FillTargets}
 use Rattle.sx_core.proofs.TableLemmas.{admitted_rows, keys_of_rows, found_meets, rows_meet, meets_named}
@@ -331,7 +332,7 @@ pub record IsSourceOf (catalog : List Declared) (log : List Rec) (spec : Spec) (
   pub rows : AreRowLists catalog log (sources_of spec) (bare_rows source.rows ∷ [])
 
 pub source_meets : (catalog : List Declared) (log : List Rec) (tables : List NamedTable) (spec : Spec) (source : Relation)
-    → TablesMeet catalog log tables → IsShaped spec → spec_fault catalog spec ≡ None → source_table (Some spec) tables ≡ Some source → IsRelation source → IsSourceOf catalog log spec source
+    → AreTables log (shapes_of catalog) tables → IsShaped spec → spec_fault catalog spec ≡ None → source_table (Some spec) tables ≡ Some source → IsRelation source → IsSourceOf catalog log spec source
 source_meets catalog log tables (Part table tests passing failing) source meets shaped fits found is = by (declared_as catalog table) refl fits
   where
     same : (other : Relation) → table_named tables table ≡ Some other → other ≡ source
@@ -353,7 +354,7 @@ source_meets catalog log tables (Union left right into) source meets shaped fits
 
 -- a transformation that fits has its source there
 pub source_there : (catalog : List Declared) (log : List Rec) (tables : List NamedTable) (spec : Spec)
-    → TablesMeet catalog log tables → IsShaped spec → spec_fault catalog spec ≡ None → (source : Relation) × (source_table (Some spec) tables ≡ Some source)
+    → AreTables log (shapes_of catalog) tables → IsShaped spec → spec_fault catalog spec ≡ None → (source : Relation) × (source_table (Some spec) tables ≡ Some source)
 source_there catalog log tables (Part table tests passing failing) meets shaped fits = by (declared_as catalog table) refl fits
   where
     by : (answer : Option Declared) → declared_as catalog table ≡ answer → part_fault catalog (option_map (λ (t : Declared). t.schema) answer) table tests passing failing ≡ None

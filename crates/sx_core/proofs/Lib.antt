@@ -1,11 +1,14 @@
-pub mod EventLemmas
-pub mod ExchangeLemmas
-pub mod KeptLemmas
-pub mod MakeLemmas
-pub mod MeetLemmas
-pub mod RowTurnLemmas
-pub mod ScanLemmas
-pub mod TableLemmas
-pub mod TransformLemmas
-pub mod TurnLemmas
-pub mod WriteLemmas
+mod ClientLemmas
+mod ClientListLemmas
+mod ExchangeLemmas
+mod HolderLemmas
+mod LivingLemmas
+mod LockLemmas
+mod MakeLemmas
+mod ManagerLemmas
+mod ReplyLemmas
+mod ScanLemmas
+mod TableLemmas
+mod TransformLemmas
+mod TurnLemmas
+mod WriteLemmas

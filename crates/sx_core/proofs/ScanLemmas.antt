@@ -1,5 +1,5 @@
 -- A turn of the scan is allowed, and keeps what the fields keep.
-use Rattle.std.proofs.Common.{◌≡◌, ◌≤◌, ◌+◌, ◌-◌, ◌∷◌, ◌++◌, ◌||◌, [], ℕ, suc, List, length, map, take, drop, Bool, true, false, cond, if◌then◌else◌, not, IsTrue, Option, Some, None, refl, sym, ◌∙◌, ap, subst, arith, inl, inr, eqb-true, true≢false}
+use Rattle.std.proofs.Common.{◌≡◌, ◌≤◌, ◌+◌, ◌-◌, ◌∷◌, ◌++◌, ◌||◌, [], ℕ, suc, List, length, map, take, drop, Bool, true, false, cond, not, IsTrue, Option, Some, None, refl, sym, ◌∙◌, ap, subst, arith, inl, inr, eqb-true, true≢false}
 use Rattle.std.specs.Prelude.{nat_eq}
 use Rattle.std.specs.List.{AllByRecursion, IsDistinct, list_any, slice_get}
 use Rattle.std.specs.List.Sorted.{IsStrictlySortedBy}
@@ -24,7 +24,7 @@ use Rattle.sx_heap.proofs.RowLemmas.{found, row_at-listed}
 use Rattle.sx_heap.proofs.WalkLemmas.{AllAbove, rows_after-turn}
 use Rattle.sx_ops.specs.declared.spec.Spec.{Spec}
 use Rattle.sx_ops.specs.Operators.{sources_of}
-use Rattle.sx_sync.specs.declared.Phase.TheVariants.{Scanning, Chasing}
+use Rattle.sx_sync.specs.declared.Phase.TheVariants.{Scanning}
 use Rattle.sx_journal.specs.declared.entry.Entry.{Entry}
 use Rattle.sx_journal.specs.declared.entry.Event.TheVariants.{Scan}
 use Rattle.sx_journal.specs.declared.entry.Reply.{Reply}
@@ -34,11 +34,11 @@ use Rattle.sx_model.specs.Openings.{Opening}
 use Rattle.sx_model.specs.Leaves.{Started, started, phase}
 use Rattle.sx_model.specs.Logs.{log_of}
 use Rattle.sx_model.specs.Scans.{has_lsn, Covers, IsRowNow, SawAll, EndsSide, side_table, IsLastSide, mark_of, seen, next_side_after, IsNextSide, IsScanTurn}
-use Rattle.sx_model.specs.Legal.{IsLegalEntry}
 use Rattle.sx_model.proofs.LsnLaws.{one_key}
 use Rattle.sx_model.proofs.ScanLaws.{covers_whole}
 use Rattle.sx_model.proofs.TestLaws.{by_cases}
-use Rattle.sx_core.specs.Kept.{IsKept, ClientsMeet, IsUnderWay, SawFirst}
+use Rattle.sx_txn.specs.Managed.{AreTables}
+use Rattle.sx_core.specs.Kept.{shapes_of, IsUnderWay, SawFirst, IsScanning, IsChasing}
 use Rattle.sx_core.proofs.TableLemmas.{found_meets}
 
 -- the LSNs of rows, in order
@@ -318,30 +318,28 @@ record IsScannedAt (o : Opening) (past : List Entry) (log : List Rec) (began : S
   seen_first : SawFirst past source.rows cursor
   walk : IsWalkFrom log name source.rows seen_first.count n walked
 
-scanned_at : (o : Opening) (past : List Entry) (log : List Rec) (tables new_tables : List NamedTable) (alive : Option ℕ) (count : ℕ) (spec : Option Spec) (cursor : Option (List Value)) (n : ℕ) (name : List ℕ) (source : Relation) (walked : Walked)
-    → (kept : IsKept o past log tables new_tables alive count Scanning spec cursor)
-    → sources_of kept.transform_meets.0.began.spec ≡ name ∷ [] → table_named tables name ≡ Some source → IsRelation source → WalksOn source.rows cursor n walked
-    → IsScannedAt o past log kept.transform_meets.0.began name source cursor n walked
-scanned_at o past log tables new_tables alive count spec cursor n name source walked kept one named is walks =
-    let scanning = kept.transform_meets.0 in
+scanned_at : (o : Opening) (past : List Entry) (log : List Rec) (tables : List NamedTable) (spec : Option Spec) (cursor : Option (List Value)) (n : ℕ) (name : List ℕ) (source : Relation) (walked : Walked)
+    → (scanning : IsScanning o past log tables spec cursor) → AreTables log (shapes_of o.catalog) tables
+    → sources_of scanning.began.spec ≡ name ∷ [] → table_named tables name ≡ Some source → IsRelation source → WalksOn source.rows cursor n walked
+    → IsScannedAt o past log scanning.began name source cursor n walked
+scanned_at o past log tables spec cursor n name source walked scanning meet one named is walks =
     let first = scanning.saw name source one named in
     record {
       source_one = record { is_started = scanning.under_way.is_started; one = one };
       seen_first = first;
-      walk = walk_from log name source cursor first.count n walked is (found_meets o.catalog log tables name source kept.tables_meet named) first.ahead walks;
+      walk = walk_from log name source cursor first.count n walked is (found_meets o.catalog log tables name source meet named) first.ahead walks;
     }
 
 -- the turn that the machine takes is allowed
-pub scan_turn : (o : Opening) (past : List Entry) (log : List Rec) (tables new_tables : List NamedTable) (alive : Option ℕ) (count : ℕ) (spec : Option Spec) (cursor : Option (List Value)) (n : ℕ) (name : List ℕ) (source : Relation) (walked : Walked)
-    → (kept : IsKept o past log tables new_tables alive count Scanning spec cursor)
-    → sources_of kept.transform_meets.0.began.spec ≡ name ∷ [] → table_named tables name ≡ Some source → IsRelation source → WalksOn source.rows cursor n walked
+pub scan_turn : (o : Opening) (past : List Entry) (log : List Rec) (tables : List NamedTable) (spec : Option Spec) (cursor : Option (List Value)) (n : ℕ) (name : List ℕ) (source : Relation) (walked : Walked)
+    → (scanning : IsScanning o past log tables spec cursor) → phase past ≡ Scanning → log ≡ log_of o past → AreTables log (shapes_of o.catalog) tables
+    → sources_of scanning.began.spec ≡ name ∷ [] → table_named tables name ≡ Some source → IsRelation source → WalksOn source.rows cursor n walked
     → IsScanTurn o past n 0 (lsns_of walked.seen) walked.over
-scan_turn o past log tables new_tables alive count spec cursor n name source walked kept one named is walks =
-    let scanning = kept.transform_meets.0 in
-    let at = scanned_at o past log tables new_tables alive count spec cursor n name source walked kept one named is walks in
-    turn_over o past log scanning.began name source.rows at.seen_first.count n walked kept.phase_is scanning.next_side kept.log_is at.source_one scanning.under_way.mark at.seen_first.saw at.walk
+scan_turn o past log tables spec cursor n name source walked scanning at same meet one named is walks =
+    let here = scanned_at o past log tables spec cursor n name source walked scanning meet one named is walks in
+    turn_over o past log scanning.began name source.rows here.seen_first.count n walked at scanning.next_side same here.source_one scanning.under_way.mark here.seen_first.saw here.walk
 
-effect-scanned : (answer : Reply) (side : ℕ) (lsns : List ℕ) (last : Bool) → answer ≡ Scanned side lsns last → effect answer ≡ Sees lsns last
+pub effect-scanned : (answer : Reply) (side : ℕ) (lsns : List ℕ) (last : Bool) → answer ≡ Scanned side lsns last → effect answer ≡ Sees lsns last
 unfolding effect
 effect-scanned answer side lsns last is = rw is
 
@@ -358,33 +356,13 @@ under_way-saw o past log spec s e lsns last u sees = record {
   position = rw sees u.position;
 }
 
-clients_meet-saw : (past : List Entry) (alive : Option ℕ) (count : ℕ) (e : Entry) (lsns : List ℕ) (last : Bool) → ClientsMeet past alive count → effect e.reply ≡ Sees lsns last → ClientsMeet (e ∷ past) alive count
-clients_meet-saw past alive count e lsns last meets sees = record {
-  living = rw sees meets.living;
-  begun = rw sees meets.begun;
-  few = (let few = meets.few in omega arith);
-}
-
 -- the last turn of a scan
-pub kept-scan_ended : (o : Opening) (past : List Entry) (log : List Rec) (tables new_tables : List NamedTable) (alive : Option ℕ) (count : ℕ) (spec : Option Spec) (cursor place : Option (List Value)) (lsns : List ℕ) (last : Bool) (e : Entry)
-    → IsKept o past log tables new_tables alive count Scanning spec cursor → e.reply ≡ Scanned 0 lsns last → IsLegalEntry o past e → last ≡ true
-    → IsKept o (e ∷ past) log tables new_tables alive count Chasing spec place
-kept-scan_ended o past log tables new_tables alive count spec cursor place lsns last e kept is entry over =
-    let sees : effect e.reply ≡ Sees lsns true = effect-scanned e.reply 0 lsns last is ∙ ap (Sees lsns) over in
-    record {
-      legal = (kept.legal, entry);
-      log_is = rw sees kept.log_is;
-      tables_meet = kept.tables_meet;
-      clients_meet = clients_meet-saw past alive count e lsns true kept.clients_meet sees;
-      phase_is = rw sees;
-      transform_meets = (
-        record {
-          began = kept.transform_meets.0.began;
-          under_way = under_way-saw o past log spec kept.transform_meets.0.began e lsns true kept.transform_meets.0.under_way sees;
-        },
-        kept.transform_meets.1,
-      );
-    }
+pub scan_ended : (o : Opening) (past : List Entry) (log : List Rec) (tables : List NamedTable) (spec : Option Spec) (cursor : Option (List Value)) (lsns : List ℕ) (e : Entry)
+    → IsScanning o past log tables spec cursor → effect e.reply ≡ Sees lsns true → IsChasing o (e ∷ past) log spec
+scan_ended o past log tables spec cursor lsns e scanning sees = record {
+  began = scanning.began;
+  under_way = under_way-saw o past log spec scanning.began e lsns true scanning.under_way sees;
+}
 
 -- behind a turn that didn't end its side the next turn has the same side
 next_side-on : (o : Opening) (past : List Entry) (e : Entry) (n : ℕ) (lsns : List ℕ) (last : Bool) → e.reply ≡ Scanned 0 lsns last → e.event ≡ Scan n → last ≡ false → IsLastSide (started past) 0 → IsScanTurn o past n 0 lsns last
@@ -414,55 +392,31 @@ saw_on past source cursor n walked last e first sees is walks =
     }
 
 -- a turn that isn't the last
-pub kept-scan_on : (o : Opening) (past : List Entry) (log : List Rec) (tables new_tables : List NamedTable) (alive : Option ℕ) (count : ℕ) (spec : Option Spec) (cursor : Option (List Value)) (n : ℕ) (name : List ℕ) (source : Relation) (walked : Walked) (e : Entry)
-    → (kept : IsKept o past log tables new_tables alive count Scanning spec cursor)
-    → sources_of kept.transform_meets.0.began.spec ≡ name ∷ [] → table_named tables name ≡ Some source → IsRelation source → WalksOn source.rows cursor n walked
-    → e.reply ≡ Scanned 0 (lsns_of walked.seen) walked.over → e.event ≡ Scan n → IsLegalEntry o past e → walked.over ≡ false
-    → IsKept o (e ∷ past) log tables new_tables alive count Scanning spec walked.next
-kept-scan_on o past log tables new_tables alive count spec cursor n name source walked e kept one named is walks answer event entry over =
-    let scanning = kept.transform_meets.0 in
+pub scan_on : (o : Opening) (past : List Entry) (log : List Rec) (tables : List NamedTable) (spec : Option Spec) (cursor : Option (List Value)) (n : ℕ) (name : List ℕ) (source : Relation) (walked : Walked) (e : Entry)
+    → (scanning : IsScanning o past log tables spec cursor)
+    → sources_of scanning.began.spec ≡ name ∷ [] → table_named tables name ≡ Some source → IsRelation source → WalksOn source.rows cursor n walked
+    → e.reply ≡ Scanned 0 (lsns_of walked.seen) walked.over → e.event ≡ Scan n → IsScanTurn o past n 0 (lsns_of walked.seen) walked.over → walked.over ≡ false
+    → IsScanning o (e ∷ past) log tables spec walked.next
+scan_on o past log tables spec cursor n name source walked e scanning one named is walks answer event turn over =
     let lsns = lsns_of walked.seen in
-    let sees : effect e.reply ≡ Sees lsns false = effect-scanned e.reply 0 lsns walked.over answer ∙ ap (Sees lsns) over in
-    let turn = scan_turn o past log tables new_tables alive count spec cursor n name source walked kept one named is walks in
+    let sees : effect e.reply ≡ Sees (lsns_of walked.seen) false = effect-scanned e.reply 0 (lsns_of walked.seen) walked.over answer ∙ ap (Sees (lsns_of walked.seen)) over in
     let side = last_of_one (started past) scanning.began name (record { is_started = scanning.under_way.is_started; one = one }) in
     record {
-      legal = (kept.legal, entry);
-      log_is = rw sees kept.log_is;
-      tables_meet = kept.tables_meet;
-      clients_meet = clients_meet-saw past alive count e lsns false kept.clients_meet sees;
-      phase_is = rw sees kept.phase_is;
-      transform_meets = (
-        record {
-          began = scanning.began;
-          under_way = under_way-saw o past log spec scanning.began e lsns false scanning.under_way sees;
-          next_side = next_side-on o past e n lsns walked.over answer event over side turn;
-          saw = λ other relation other_one other_named. by sees other relation other_one other_named;
-        },
-        kept.transform_meets.1,
-      );
+      began = scanning.began;
+      under_way = under_way-saw o past log spec scanning.began e (lsns_of walked.seen) false scanning.under_way sees;
+      next_side = next_side-on o past e n (lsns_of walked.seen) walked.over answer event over side turn;
+      saw = λ other relation other_one other_named. by sees other relation other_one other_named;
     }
   where
     inside : (x y : Relation) → Some x ≡ Some y → x ≡ y
     inside x y h = cc
 
-    by : effect e.reply ≡ Sees (lsns_of walked.seen) false → (other : List ℕ) (relation : Relation) → sources_of kept.transform_meets.0.began.spec ≡ other ∷ [] → table_named tables other ≡ Some relation → SawFirst (e ∷ past) relation.rows walked.next
+    by : effect e.reply ≡ Sees (lsns_of walked.seen) false → (other : List ℕ) (relation : Relation) → sources_of scanning.began.spec ≡ other ∷ [] → table_named tables other ≡ Some relation → SawFirst (e ∷ past) relation.rows walked.next
     by sees other relation other_one other_named =
         let name_is : other ≡ name = inside_name other name (sym other_one ∙ one) in
         let relation_is : source ≡ relation = inside source relation (sym named ∙ ap (table_named tables) (sym name_is) ∙ other_named) in
         subst (λ (r : Relation). SawFirst (e ∷ past) r.rows walked.next) relation_is
-        (saw_on past source cursor n walked false e (kept.transform_meets.0.saw name source one named) sees is walks)
+        (saw_on past source cursor n walked false e (scanning.saw name source one named) sees is walks)
       where
         inside_name : (x y : List ℕ) → ◌≡◌ {A = List (List ℕ)} (x ∷ []) (y ∷ []) → x ≡ y
         inside_name x y h = cc
-
--- a scan turn
-pub kept-scan : (o : Opening) (past : List Entry) (log : List Rec) (tables new_tables : List NamedTable) (alive : Option ℕ) (count : ℕ) (spec : Option Spec) (cursor : Option (List Value)) (n : ℕ) (name : List ℕ) (source : Relation) (walked : Walked) (e : Entry)
-    → (kept : IsKept o past log tables new_tables alive count Scanning spec cursor)
-    → sources_of kept.transform_meets.0.began.spec ≡ name ∷ [] → table_named tables name ≡ Some source → IsRelation source → WalksOn source.rows cursor n walked
-    → e.reply ≡ Scanned 0 (lsns_of walked.seen) walked.over → e.event ≡ Scan n → IsLegalEntry o past e
-    → IsKept o (e ∷ past) log tables new_tables alive count (if walked.over then Chasing else Scanning) spec walked.next
-kept-scan o past log tables new_tables alive count spec cursor n name source walked e kept one named is walks answer event entry = by walked.over refl
-  where
-    by : (b : Bool) → walked.over ≡ b → IsKept o (e ∷ past) log tables new_tables alive count (if b then Chasing else Scanning) spec walked.next
-    by true over = kept-scan_ended o past log tables new_tables alive count spec cursor walked.next (lsns_of walked.seen) walked.over e kept answer entry over
-    by false over = kept-scan_on o past log tables new_tables alive count spec cursor n name source walked e kept one named is walks answer event entry over

@@ -15,7 +15,8 @@ use Rattle.sx_values.specs.Names.{same_name}
 use Rattle.sx_values.specs.Values.{values_cmp, values_eq}
 use Rattle.sx_values.proofs.KeyLaws.{same_name_tells}
 use Rattle.sx_log.specs.declared.record.Rec.{Rec}
-use Rattle.sx_log.specs.State.{Stored, state_at}
+use Rattle.sx_log.specs.declared.record.Body.TheVariants.{Switch}
+use Rattle.sx_log.specs.State.{Stored, state_at, after_body}
 use Rattle.sx_heap.specs.declared.seen.Seen.{Seen}
 use Rattle.sx_heap.specs.declared.tables.NamedTable.{NamedTable}
 use Rattle.sx_heap.specs.Relations.{Relation, IsRelation, IsRowOf, row_at, row_keys, same_key}
@@ -26,7 +27,8 @@ use Rattle.sx_ops.specs.declared.spec.Spec.TheVariants.{Join, Split, Part, Union
 use Rattle.sx_ops.specs.Checks.{IsShaped, spec_fault, part_fault}
 use Rattle.sx_ops.specs.Operators.{sources_of}
 use Rattle.sx_model.specs.Tables.{AreRows, row_of_key}
-use Rattle.sx_core.specs.Kept.{TablesMeet}
+use Rattle.sx_txn.specs.Managed.{AreTables}
+use Rattle.sx_core.specs.Kept.{shapes_of}
 
 -- a table of this name that has the declared schema, and at each key what the log leaves there
 pub record MeetsNamed (log : List Rec) (declared : Declared) (tables : List NamedTable) (name : List ℕ) : Type 0 where
@@ -49,7 +51,7 @@ not_first c false rest is = refl
 
 -- a declared name has its table
 pub meets_named : (catalog : List Declared) (log : List Rec) (tables : List NamedTable) (name : List ℕ) (d : Declared)
-    → TablesMeet catalog log tables → declared_as catalog name ≡ Some d → MeetsNamed log d tables name
+    → AreTables log (shapes_of catalog) tables → declared_as catalog name ≡ Some d → MeetsNamed log d tables name
 meets_named [] log tables name d meets is = absurd (cc)
 meets_named (c ∷ catalog) log [] name d meets is = absurd meets
 meets_named (c ∷ catalog) log (t ∷ tables) name d meets is = by (same_name c.name name) refl (λ other. meets_named catalog log tables name d meets.1 (declared_rest c (Some d) (same_name c.name name) (declared_as catalog name) other is))
@@ -71,7 +73,7 @@ meets_named (c ∷ catalog) log (t ∷ tables) name d meets is = by (same_name c
 
 -- a name that isn't declared has none
 pub meets_unnamed : (catalog : List Declared) (log : List Rec) (tables : List NamedTable) (name : List ℕ)
-    → TablesMeet catalog log tables → declared_as catalog name ≡ None → table_named tables name ≡ None
+    → AreTables log (shapes_of catalog) tables → declared_as catalog name ≡ None → table_named tables name ≡ None
 meets_unnamed [] log [] name meets is = refl
 meets_unnamed [] log (t ∷ tables) name meets is = absurd meets
 meets_unnamed (c ∷ catalog) log [] name meets is = absurd meets
@@ -82,7 +84,7 @@ meets_unnamed (c ∷ catalog) log (t ∷ tables) name meets is =
 
 -- a table that is found has at each key what the log leaves there
 pub found_meets : (catalog : List Declared) (log : List Rec) (tables : List NamedTable) (name : List ℕ) (source : Relation)
-    → TablesMeet catalog log tables → table_named tables name ≡ Some source → (key : List Value) → row_at source.rows key ≡ state_at log name key
+    → AreTables log (shapes_of catalog) tables → table_named tables name ≡ Some source → (key : List Value) → row_at source.rows key ≡ state_at log name key
 found_meets catalog log tables name source meets is = by (declared_as catalog name) refl
   where
     by : (answer : Option Declared) → declared_as catalog name ≡ answer → (key : List Value) → row_at source.rows key ≡ state_at log name key
@@ -154,7 +156,7 @@ pub record HasSource (catalog : List Declared) (log : List Rec) (tables : List N
 
 -- a transformation that fits has its source among the tables
 pub has_source : (catalog : List Declared) (log : List Rec) (tables : List NamedTable) (spec : Spec)
-    → TablesMeet catalog log tables → IsShaped spec → spec_fault catalog spec ≡ None → HasSource catalog log tables spec
+    → AreTables log (shapes_of catalog) tables → IsShaped spec → spec_fault catalog spec ≡ None → HasSource catalog log tables spec
 has_source catalog log tables (Part table tests passing failing) meets shaped fits = by (declared_as catalog table) refl fits
   where
     by : (answer : Option Declared) → declared_as catalog table ≡ answer → part_fault catalog (option_map (λ (t : Declared). t.schema) answer) table tests passing failing ≡ None → HasSource catalog log tables (Part table tests passing failing)
@@ -163,3 +165,7 @@ has_source catalog log tables (Part table tests passing failing) meets shaped fi
 has_source catalog log tables (Join left right on_left on_right into) meets shaped fits = absurd shaped
 has_source catalog log tables (Split table dep_by dep rest dependent) meets shaped fits = absurd shaped
 has_source catalog log tables (Union left right into) meets shaped fits = absurd shaped
+
+pub state-switch : (log : List Rec) (txn : ℕ) (name : List ℕ) (key : List Value) → state_at (record { txn = txn; body = Switch } ∷ log) name key ≡ state_at log name key
+unfolding after_body
+state-switch log txn name key = refl

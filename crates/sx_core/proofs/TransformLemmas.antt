@@ -1,130 +1,147 @@
 -- The propagator's turns, from what the machine was to what it is: over plain variables.
-use Rattle.std.proofs.Common.{◌≡◌, ◌≤◌, ◌<◌, ◌+◌, ◌-◌, ◌∷◌, [], ℕ, List, length, map, Option, Some, None, Bool, true, false, refl, sym, ◌∙◌, ap, subst, arith, if◌then◌else◌}
+use Rattle.std.proofs.Common.{◌≡◌, ◌≤◌, ◌-◌, ◌&&◌, ◌∷◌, [], ℕ, List, length, map, filter, Option, Some, None, option_map, Bool, true, false, IfSome, IsSome, IsSomeAnd, refl, sym, ◌∙◌, ap, subst, arith, inl, if◌then◌else◌}
 use Rattle.sx_values.specs.declared.value.Value.{Value}
+use Rattle.sx_values.specs.declared.catalog.Declared.{Declared}
+use Rattle.sx_values.specs.Layouts.{Layout}
+use Rattle.sx_values.specs.Catalogs.{schema_of}
 use Rattle.sx_log.specs.declared.record.Rec.{Rec}
 use Rattle.sx_log.specs.declared.record.Body.TheVariants.{Mark, Switch as Switching}
+use Rattle.sx_heap.specs.declared.seen.Seen.{Seen}
+use Rattle.sx_heap.specs.declared.walk.Walked.{Walked}
 use Rattle.sx_heap.specs.declared.tables.NamedTable.{NamedTable}
-use Rattle.sx_heap.specs.NamedTables.{names_of_tables}
+use Rattle.sx_heap.specs.Relations.{Relation, IsRelation}
+use Rattle.sx_heap.specs.NamedTables.{table_named}
+use Rattle.sx_heap.specs.Walks.{WalksOn, rows_after}
+use Rattle.sx_txn.specs.Managed.{Managed, Unchanged, AreTables}
+use Rattle.sx_txn.specs.Turns.{Notes}
 use Rattle.sx_ops.specs.declared.spec.Spec.{Spec}
+use Rattle.sx_ops.specs.declared.spec.Spec.TheVariants.{Join, Split, Part, Union}
 use Rattle.sx_ops.specs.Checks.{IsShaped, spec_fault}
 use Rattle.sx_ops.specs.Operators.{sources_of, targets_of, operator}
 use Rattle.sx_ops.specs.Targets.{targets}
 use Rattle.sx_sync.specs.declared.Phase.{Phase}
 use Rattle.sx_sync.specs.declared.Phase.TheVariants.{Idle, Scanning, Chasing, Draining, Done}
-use Rattle.sx_sync.specs.declared.Strategy.{Strategy}
 use Rattle.sx_sync.specs.declared.Strategy.TheVariants.{Blocking}
 use Rattle.sx_journal.specs.declared.entry.Entry.{Entry}
+use Rattle.sx_journal.specs.declared.entry.Event.{Event}
 use Rattle.sx_journal.specs.declared.entry.Event.TheVariants.{Start, Scan, Switch}
 use Rattle.sx_journal.specs.declared.entry.Reply.{Reply}
 use Rattle.sx_journal.specs.declared.entry.Reply.TheVariants as reply
-use Rattle.sx_model.specs.Effects.{effect, Conflicts, Switches}
+use Rattle.sx_model.specs.Effects.{effect, Starts, Sees, Conflicts, Switches}
 use Rattle.sx_model.specs.Openings.{Opening}
-use Rattle.sx_model.specs.Leaves.{living, Started, started, phase}
+use Rattle.sx_model.specs.Leaves.{Living, living, Started, started, phase, is_blocking}
 use Rattle.sx_model.specs.Logs.{log_of, next_lsn}
+use Rattle.sx_model.specs.Held.{least}
 use Rattle.sx_model.specs.Replies.{start_reply}
-use Rattle.sx_model.specs.Scans.{IsScanTurn}
-use Rattle.sx_model.specs.Switches.{switch_reply, switch_unless, conflict, has_lock_on, position}
+use Rattle.sx_model.specs.Scans.{IsScanTurn, IsNextSide, next_side_after}
+use Rattle.sx_model.specs.Switches.{switch_reply, unless_hindered, unless_violated, conflict, has_lock_on, is_split, wrote_on, position}
 use Rattle.sx_model.specs.Tables.{AreRows}
-use Rattle.sx_model.specs.Legal.{IsLegalEntry, Allows, ScanAnswer}
-use Rattle.std.specs.Prelude.{option_map}
-use Rattle.sx_values.specs.declared.catalog.Declared.{Declared}
-use Rattle.sx_values.specs.Layouts.{Layout}
-use Rattle.sx_values.specs.Catalogs.{schema_of}
-use Rattle.sx_heap.specs.declared.seen.Seen.{Seen}
-use Rattle.sx_heap.specs.declared.walk.Walked.{Walked}
-use Rattle.sx_heap.specs.Relations.{Relation, IsRelation}
-use Rattle.sx_heap.specs.NamedTables.{table_named}
-use Rattle.sx_heap.specs.Walks.{WalksOn}
-use Rattle.sx_ops.specs.declared.spec.Spec.TheVariants.{Join, Split, Part, Union}
-use Rattle.sx_core.specs.FreshTables.{fresh_tables}
-use Rattle.sx_core.specs.Exchanges.{source_table, source_among}
-use Rattle.sx_core.proofs.ScanLemmas.{scan_turn, kept-scan}
-use Rattle.sx_core.proofs.TableLemmas.{has_source, rows_meet, found_meets}
-use Rattle.sx_core.specs.Conflicts.{conflict_with, conflict_now}
+use Rattle.sx_model.specs.Legal.{IsLegalEntry, Allows, ScanAnswer, HasRoom}
+use Rattle.sx_model.proofs.EntryLaws.{living_by, log-switched}
+use Rattle.sx_model.proofs.Outcomes.{no_violation}
 use Rattle.sx_core.specs.Machines.{Machine}
-use Rattle.sx_core.specs.Kept.{TablesMeet, IsKept, living_as, plain_rows}
-use Rattle.sx_core.proofs.KeptLemmas.{kept-start, tables_meet-state, state-switch}
-use Rattle.sx_core.proofs.TurnLemmas.{from_view, has_room, next-kept}
+use Rattle.sx_core.specs.Kept.{Fields, IsIdle, IsScanning, IsChasing, IsSwitchedTo, TransformMeets, IsKept, shapes_of, plain_rows}
+use Rattle.sx_core.specs.Asked.{HasPlace}
+use Rattle.sx_core.specs.FreshTables.{fresh_tables}
+use Rattle.sx_core.specs.Conflicts.{least_locking, conflict_with, conflict_now}
+use Rattle.sx_core.specs.Exchanges.{source_table, source_among, source_schema, CanExchange, IsExchange}
+use Rattle.sx_core.proofs.TableLemmas.{has_source, rows_meet, found_meets, state-switch}
+use Rattle.sx_core.proofs.ScanLemmas.{lsns_of, scan_turn, effect-scanned, scan_ended, scan_on}
+use Rattle.sx_core.proofs.ManagerLemmas.{meets-saw, meets-conflict, meets-started, meets-switched}
+use Rattle.sx_core.proofs.TurnLemmas.{unchanged, TransformStays, Holds, from_view, no_longer, by_one, Took, took, opened, phase_by, started_told, next_there, unchanged_meets}
 
--- what a start is answered where no transformation has started
-pub start-answered : (o : Opening) (past : List Entry) (spec : Spec) (lsn : ℕ) → phase past ≡ Idle → spec_fault o.catalog spec ≡ None → next_lsn o past ≡ lsn
-    → reply.Started lsn ≡ start_reply o past spec
-start-answered o past spec lsn idle fits next = rw (idle, fits) (ap reply.Started (sym next))
+-- an entry of the propagator
+abbrev pub own_entry : Event → Reply → Entry
+own_entry event answer = record { actor = 0; event = event; reply = answer }
 
-legal-start : (o : Opening) (past : List Entry) (alive : Option ℕ) (spec : Spec) (lsn : ℕ)
-    → living past ≡ living_as alive → length past < 40000 → IsShaped spec → reply.Started lsn ≡ start_reply o past spec
-    → IsLegalEntry o past (record { actor = 0; event = Start spec Blocking; reply = reply.Started lsn })
+place_here : (catalog : List Declared) (loads : ℕ) (past : List Entry) (f : Fields) (m : Machine) (answer : Reply) → Holds catalog loads past f m → HasPlace m → HasRoom past answer
+place_here catalog loads past f m answer holds place = inl (from_view HasPlace (opened catalog loads f.managed.log) past m holds.view place)
+
+-- the machine's phase
+pub now_in : (catalog : List Declared) (loads : ℕ) (past : List Entry) (f : Fields) (m : Machine) (at : Phase) → Holds catalog loads past f m → phase m.past ≡ at → f.now ≡ at
+now_in catalog loads past f m at holds is = sym holds.kept.phase_is ∙ from_view (λ (x : Machine). phase x.past ≡ at) (opened catalog loads f.managed.log) past m holds.view is
+
+-- what is kept of the transformation in that phase
+pub transform_in : (catalog : List Declared) (loads : ℕ) (past : List Entry) (f : Fields) (m : Machine) (at : Phase) → Holds catalog loads past f m → phase m.past ≡ at
+    → TransformMeets (opened catalog loads f.managed.log) past f.managed.log f.managed.tables at f.spec f.cursor f.new_tables
+transform_in catalog loads past f m at holds is =
+    subst (λ p. TransformMeets (opened catalog loads f.managed.log) past f.managed.log f.managed.tables p f.spec f.cursor f.new_tables) (now_in catalog loads past f m at holds is) holds.kept.transform_meets
+
+-- ** a start **
+
+legal-start : (o : Opening) (past : List Entry) (spec : Spec) (answer : Reply) → HasRoom past answer → IsShaped spec → answer ≡ start_reply o past spec → IsLegalEntry o past (own_entry (Start spec Blocking) answer)
 unfolding Allows
-legal-start o past alive spec lsn is few shaped answered =
-    record { room = has_room past alive (reply.Started lsn) is few; allowed = record { propagator = refl; shaped = shaped; blocking = refl; answered = answered } }
+legal-start o past spec answer room shaped answered = record { room = room; allowed = record { propagator = refl; shaped = shaped; blocking = refl; answered = answered } }
 
-pub legal-scan : (o : Opening) (past : List Entry) (alive : Option ℕ) (n side : ℕ) (lsns : List ℕ) (last : Bool)
-    → living past ≡ living_as alive → length past < 40000 → 1 ≤ n → n ≤ 64 → IsScanTurn o past n side lsns last
-    → IsLegalEntry o past (record { actor = 0; event = Scan n; reply = reply.Scanned side lsns last })
-unfolding Allows ScanAnswer
-legal-scan o past alive n side lsns last is few some most turn =
-    record { room = has_room past alive (reply.Scanned side lsns last) is few; allowed = record { propagator = refl; some = some; few = most; answered = turn } }
+start-answered : (o : Opening) (past : List Entry) (spec : Spec) (lsn : ℕ) → phase past ≡ Idle → spec_fault o.catalog spec ≡ None → lsn ≡ next_lsn o past → reply.Started lsn ≡ start_reply o past spec
+start-answered o past spec lsn idle fits next = rw (idle, fits) (ap reply.Started next)
 
-legal-switch : (o : Opening) (past : List Entry) (alive : Option ℕ) (answer : Reply)
-    → living past ≡ living_as alive → length past < 40000 → answer ≡ switch_reply o past
-    → IsLegalEntry o past (record { actor = 0; event = Switch; reply = answer })
-unfolding Allows
-legal-switch o past alive answer is few answered =
-    record { room = has_room past alive answer is few; allowed = record { propagator = refl; answered = answered } }
+effect-started : (lsn : ℕ) → effect (reply.Started lsn) ≡ Starts lsn
+unfolding effect
+effect-started lsn = refl
 
--- what the machine kept, in a phase in which it is asked for an event of the propagator
-pub record Has (o : Opening) (past : List Entry) (log : List Rec) (tables new_tables : List NamedTable) (alive : Option ℕ) (count : ℕ) (now : Phase) (spec : Option Spec) (cursor : Option (List Value)) (m : Machine) (in_phase : Phase) : Type 0 where
-  pub kept : IsKept o past log tables new_tables alive count now spec cursor
-  pub view : record { opening = o; past = past } ≡ m
-  pub at : phase m.past ≡ in_phase
-  pub room : length m.past < 40000
+next_side-start : (o : Opening) (past : List Entry) (spec : Spec) (lsn : ℕ) → IsNextSide o (own_entry (Start spec Blocking) (reply.Started lsn) ∷ past) 0
+unfolding next_side_after
+next_side-start o past spec lsn = refl
 
-pub phase_here : (o : Opening) (past : List Entry) (log : List Rec) (tables new_tables : List NamedTable) (alive : Option ℕ) (count : ℕ) (now : Phase) (spec : Option Spec) (cursor : Option (List Value)) (m : Machine) (in_phase : Phase)
-    → Has o past log tables new_tables alive count now spec cursor m in_phase → now ≡ in_phase
-phase_here o past log tables new_tables alive count now spec cursor m in_phase has =
-    sym has.kept.phase_is ∙ from_view (λ _ past. phase past ≡ in_phase) o past m has.view has.at
+rows_after-none : (rows : List Seen) → rows_after None rows ≡ rows
+rows_after-none [] = refl
+rows_after-none (s ∷ rows) = ap (λ l. s ∷ l) (rows_after-none rows)
 
--- a start
-pub kept-started : (o : Opening) (past journal : List Entry) (log longer : List Rec) (tables new_tables : List NamedTable) (alive : Option ℕ) (count : ℕ) (now : Phase) (earlier : Option Spec) (cursor : Option (List Value)) (m : Machine) (spec : Spec) (strategy : Strategy) (lsn : ℕ)
-    → Has o past log tables new_tables alive count now earlier cursor m Idle → longer ≡ record { txn = 0; body = Mark } ∷ log → lsn ≡ length longer
-    → IsShaped spec → spec_fault m.opening.catalog spec ≡ None → strategy ≡ Blocking
-    → journal ≡ record { actor = 0; event = Start spec strategy; reply = reply.Started lsn } ∷ past
-    → IsKept o journal longer tables new_tables alive count Scanning (Some spec) None
-kept-started o past journal log longer tables new_tables alive count now earlier cursor m spec strategy lsn has grown counts shaped fits blocking is =
-    let idle = phase_here o past log tables new_tables alive count now earlier cursor m Idle has in
-    let few = from_view (λ _ past. length past < 40000) o past m has.view has.room in
-    let fits_here = from_view (λ o _. spec_fault o.catalog spec ≡ None) o past m has.view fits in
-    let counted : lsn ≡ length log + 1 = counts ∙ ap length grown ∙ omega arith in
-    let next : next_lsn o past ≡ lsn = next-kept o past log tables new_tables alive count now earlier cursor has.kept ∙ sym counted in
-    let answered = start-answered o past spec lsn (has.kept.phase_is ∙ idle) fits_here next in
-    let entry = legal-start o past alive spec lsn has.kept.clients_meet.living few shaped answered in
-    let kept = subst (λ p. IsKept o past log tables new_tables alive count p earlier cursor) idle has.kept in
-    rw (is, grown, blocking) (kept-start o past log tables new_tables alive count spec earlier cursor _ kept (ap reply.Started counted) refl entry shaped fits_here)
+-- the scan that a start begins
+start_scans : (o : Opening) (past : List Entry) (log : List Rec) (tables : List NamedTable) (spec : Spec) (lsn : ℕ) → IsShaped spec → spec_fault o.catalog spec ≡ None → lsn ≡ length log
+    → IsScanning o (own_entry (Start spec Blocking) (reply.Started lsn) ∷ past) log tables (Some spec) None
+start_scans o past log tables spec lsn shaped fits counts = let starts = effect-started lsn in record {
+  began = record { spec = spec; strategy = Blocking; mark = lsn };
+  under_way = record {
+    is_started = rw starts refl;
+    is_spec = refl;
+    blocking = refl;
+    shaped = shaped;
+    fits = fits;
+    mark = counts;
+    position = rw starts counts;
+  };
+  next_side = next_side-start o past spec lsn;
+  saw = λ name source sources found. record { count = 0; ahead = rows_after-none source.rows; saw = rw starts refl };
+}
 
--- one client's transaction hinders the switch where it has a lock on the source
-pub conflict-alone : (o : Opening) (past : List Entry) (s : Started) (txn : ℕ) (locked : Bool) → living past ≡ living_as (Some txn) → s.strategy ≡ Blocking
-    → has_lock_on (sources_of s.spec) 1 past ≡ locked → conflict o past s ≡ (if locked then Some txn else None)
-conflict-alone o past s txn true is blocking locked = rw (is, blocking, locked) refl
-conflict-alone o past s txn false is blocking locked = rw (is, blocking, locked) refl
+pub started_took : (catalog : List Declared) (loads : ℕ) (past journal : List Entry) (f : Fields) (m : Machine) (between managed : Managed) (spare : ℕ) (spec : Spec) (lsn : ℕ)
+    → Holds catalog loads past f m → phase m.past ≡ Idle → HasPlace m → IsShaped spec → spec_fault m.opening.catalog spec ≡ None
+    → Unchanged f.managed between → Notes between managed Mark lsn → length f.clients ≤ spare → journal ≡ own_entry (Start spec Blocking) (reply.Started lsn) ∷ past
+    → Took catalog loads journal (record { managed = managed; spare = spare; clients = f.clients; new_tables = f.new_tables; now = Scanning; spec = Some spec; cursor = None }) m 0 (Start spec Blocking) (reply.Started lsn)
+started_took catalog loads past journal f m between managed spare spec lsn holds idle place shaped fits stays notes room is =
+    let o = opened catalog loads f.managed.log in
+    let e = own_entry (Start spec Blocking) (reply.Started lsn) in
+    let meets = unchanged_meets (opened catalog loads f.managed.log) past f.managed between holds.kept.manager_meets stays in
+    let next = next_there (opened catalog loads f.managed.log) past between lsn meets notes.place in
+    let told = effect-started lsn in
+    let fits_here : spec_fault catalog spec ≡ None = from_view (λ (x : Machine). spec_fault x.opening.catalog spec ≡ None) (opened catalog loads f.managed.log) past m holds.view fits in
+    let was : IsIdle past f.spec f.new_tables = transform_in catalog loads past f m Idle holds idle in
+    let answered = start-answered (opened catalog loads f.managed.log) past spec lsn (holds.kept.phase_is ∙ now_in catalog loads past f m Idle holds idle) fits_here next in
+    let grown : managed.log ≡ record { txn = 0; body = Mark } ∷ f.managed.log = notes.log ∙ ap (λ l. record { txn = 0; body = Mark } ∷ l) stays.log in
+    let counts : lsn ≡ length managed.log = (let p = notes.place in let q = ap length notes.log in omega arith) in
+    let kept : IsKept (opened catalog loads f.managed.log) (own_entry (Start spec Blocking) (reply.Started lsn) ∷ past) (record { managed = managed; spare = spare; clients = f.clients; new_tables = f.new_tables; now = Scanning; spec = Some spec; cursor = None }) = record {
+      legal = (holds.kept.legal, legal-start (opened catalog loads f.managed.log) past spec (reply.Started lsn) (place_here catalog loads past f m (reply.Started lsn) holds place) shaped answered);
+      manager_meets = meets-started (opened catalog loads f.managed.log) past between managed (own_entry (Start spec Blocking) (reply.Started lsn)) Mark lsn lsn meets notes told refl;
+      clients_are = holds.kept.clients_are ∙ sym (living_by past (own_entry (Start spec Blocking) (reply.Started lsn)) (Starts lsn) told);
+      room = room;
+      phase_is = phase_by past (own_entry (Start spec Blocking) (reply.Started lsn)) (Starts lsn) told;
+      transform_meets = (start_scans (opened catalog loads f.managed.log) past managed.log managed.tables spec lsn shaped fits_here counts, was.no_tables);
+    } in
+    took catalog loads past journal f _ m 0 (Start spec Blocking) (reply.Started lsn) holds (by_one (record { txn = 0; body = Mark }) grown) is
+    (subst (λ j. IsKept (opened catalog loads f.managed.log) j (record { managed = managed; spare = spare; clients = f.clients; new_tables = f.new_tables; now = Scanning; spec = Some spec; cursor = None })) (sym is) kept)
 
-pub conflict-none : (o : Opening) (past : List Entry) (s : Started) → living past ≡ [] → conflict o past s ≡ None
-conflict-none o past s is = rw is refl
-
--- what an attempt to switch is answered where the log has ended at the position
-pub switch-answered : (o : Opening) (past : List Entry) (s : Started) → phase past ≡ Chasing → started past ≡ Some s → position o past ≡ length (log_of o past)
-    → switch_reply o past ≡ switch_unless o past (conflict o past s)
-switch-answered o past s chasing is read =
-    let none : length (log_of o past) - length (log_of o past) ≡ 0 = omega arith in
-    rw (chasing, is, read, none) refl
+-- ** the source **
 
 -- the one source of a horizontal split, by its name
-pub record NamedSource (tables : List NamedTable) (spec : Spec) (source : Relation) : Type 0 where
-  pub name : List ℕ
-  pub one : sources_of spec ≡ name ∷ []
-  pub found : table_named tables name ≡ Some source
+record NamedSource (tables : List NamedTable) (spec : Spec) (source : Relation) : Type 0 where
+  name : List ℕ
+  is_one : sources_of spec ≡ name ∷ []
+  found : table_named tables name ≡ Some source
 
-pub source_named : (tables : List NamedTable) (spec : Spec) (source : Relation) → IsShaped spec → source_among tables spec ≡ Some source → NamedSource tables spec source
-source_named tables (Part table tests passing failing) source shaped found = record { name = table; one = refl; found = found }
+source_named : (tables : List NamedTable) (spec : Spec) (source : Relation) → IsShaped spec → source_among tables spec ≡ Some source → NamedSource tables spec source
+source_named tables (Part table tests passing failing) source shaped found = record { name = table; is_one = refl; found = found }
 source_named tables (Join left right on_left on_right into) source shaped found = absurd shaped
 source_named tables (Split table others dep rest dependent) source shaped found = absurd shaped
 source_named tables (Union left right into) source shaped found = absurd shaped
@@ -132,17 +149,136 @@ source_named tables (Union left right into) source shaped found = absurd shaped
 some_one : (a b : Relation) (o : Option Relation) → o ≡ Some a → o ≡ Some b → a ≡ b
 some_one a b o p q = let e : Some a ≡ Some b = sym p ∙ q in cc
 
-pub one_name : (a b : List ℕ) (names : List (List ℕ)) → names ≡ a ∷ [] → names ≡ b ∷ [] → a ≡ b
+one_name : (a b : List ℕ) (names : List (List ℕ)) → names ≡ a ∷ [] → names ≡ b ∷ [] → a ≡ b
 one_name a b names p q = let e : a ∷ [] ≡ b ∷ [] = sym p ∙ q in cc
 
 -- the source's schema is the declared one
 source_declared : (catalog : List Declared) (log : List Rec) (tables : List NamedTable) (spec : Spec) (source : Relation)
-    → TablesMeet catalog log tables → IsShaped spec → spec_fault catalog spec ≡ None → (at : NamedSource tables spec source) → schema_of catalog at.name ≡ Some source.schema
+    → AreTables log (shapes_of catalog) tables → IsShaped spec → spec_fault catalog spec ≡ None → (at : NamedSource tables spec source) → schema_of catalog at.name ≡ Some source.schema
 source_declared catalog log tables spec source meets shaped fits at =
     let has = has_source catalog log tables spec meets shaped fits in
-    let named = one_name has.name at.name (sources_of spec) has.one at.one in
+    let named = one_name has.name at.name (sources_of spec) has.one at.is_one in
     let same = some_one has.meets.relation source (table_named tables at.name) (ap (table_named tables) (sym named) ∙ has.meets.found) at.found in
     subst (λ n. schema_of catalog n ≡ Some source.schema) named (rw has.is_declared (ap Some (sym has.meets.schema ∙ ap (λ (r : Relation). r.schema) same)))
+
+-- the source of a transformation, with its declared schema
+pub record SourceThere (catalog : List Declared) (tables : List NamedTable) (spec : Spec) : Type 0 where
+  pub source : Relation
+  pub found : source_among tables spec ≡ Some source
+  pub declared : source_schema catalog spec ≡ Some source.schema
+
+source_there : (catalog : List Declared) (log : List Rec) (tables : List NamedTable) (spec : Spec)
+    → AreTables log (shapes_of catalog) tables → IsShaped spec → spec_fault catalog spec ≡ None → SourceThere catalog tables spec
+source_there catalog log tables (Part table tests passing failing) meets shaped fits =
+    let has = has_source catalog log tables (Part table tests passing failing) meets shaped fits in
+    let named = one_name has.name table (sources_of (Part table tests passing failing)) has.one refl in
+    record {
+      source = has.meets.relation;
+      found = ap (table_named tables) (sym named) ∙ has.meets.found;
+      declared = subst (λ n. schema_of catalog n ≡ Some has.meets.relation.schema) named (rw has.is_declared (ap Some (sym has.meets.schema)));
+    }
+source_there catalog log tables (Join left right on_left on_right into) meets shaped fits = absurd shaped
+source_there catalog log tables (Split table others dep rest dependent) meets shaped fits = absurd shaped
+source_there catalog log tables (Union left right into) meets shaped fits = absurd shaped
+
+-- the tables that the manager lends meet its log
+pub tables_there : (catalog : List Declared) (loads : ℕ) (past : List Entry) (f : Fields) (m : Machine) (lent : List NamedTable) → Holds catalog loads past f m → lent ≡ f.managed.tables → AreTables f.managed.log f.managed.shapes lent
+    → AreTables f.managed.log (shapes_of catalog) f.managed.tables
+tables_there catalog loads past f m lent holds same meet =
+    subst (AreTables f.managed.log (shapes_of catalog)) same (subst (λ shapes. AreTables f.managed.log shapes lent) holds.kept.manager_meets.shapes meet)
+
+-- while the scan is under way, its source is among the tables
+pub record ScansTable (tables : List NamedTable) (spec : Option Spec) : Type 0 where
+  pub source : Relation
+  pub found : source_table spec tables ≡ Some source
+
+pub scans_table : (catalog : List Declared) (loads : ℕ) (past : List Entry) (f : Fields) (m : Machine) → Holds catalog loads past f m → phase m.past ≡ Scanning → AreTables f.managed.log (shapes_of catalog) f.managed.tables
+    → ScansTable f.managed.tables f.spec
+scans_table catalog loads past f m holds at meet =
+    let scanning = (transform_in catalog loads past f m Scanning holds at).0 in
+    let under = scanning.under_way in
+    let there = source_there catalog f.managed.log f.managed.tables scanning.began.spec meet under.shaped under.fits in
+    record { source = there.source; found = ap (λ s. source_table s f.managed.tables) under.is_spec ∙ there.found }
+
+pub there_is : (o : Option Relation) (source : Relation) → o ≡ Some source → IsSome o
+there_is o source is = subst IsSome (sym is) refl
+
+pub of_the_found : (P : Relation → Type 0) (o : Option Relation) (source : Relation) → o ≡ Some source → IsSomeAnd o P → P source
+of_the_found P o source is fact = subst (λ a. IsSomeAnd a P) is fact
+
+-- ** a scan turn **
+
+legal-scan : (o : Opening) (past : List Entry) (n side : ℕ) (lsns : List ℕ) (last : Bool) → HasRoom past (reply.Scanned side lsns last) → 1 ≤ n → n ≤ 64 → IsScanTurn o past n side lsns last
+    → IsLegalEntry o past (own_entry (Scan n) (reply.Scanned side lsns last))
+unfolding Allows ScanAnswer
+legal-scan o past n side lsns last room some most turn = record { room = room; allowed = record { propagator = refl; some = some; few = most; answered = turn } }
+
+-- the fields behind a scan turn
+abbrev pub scanned_fields : Fields → ℕ → Phase → Option (List Value) → Fields
+scanned_fields f spare after place = record { managed = f.managed; spare = spare; clients = f.clients; new_tables = f.new_tables; now = after; spec = f.spec; cursor = place }
+
+-- what a scan turn leaves of the transformation
+scanned_meets : (o : Opening) (past : List Entry) (f : Fields) (n : ℕ) (name : List ℕ) (source : Relation) (walked : Walked) (last : Bool)
+    → (scanning : IsScanning o past f.managed.log f.managed.tables f.spec f.cursor) → f.new_tables ≡ []
+    → sources_of scanning.began.spec ≡ name ∷ [] → table_named f.managed.tables name ≡ Some source → IsRelation source → WalksOn source.rows f.cursor n walked
+    → IsScanTurn o past n 0 (lsns_of walked.seen) walked.over → walked.over ≡ last
+    → TransformMeets o (own_entry (Scan n) (reply.Scanned 0 (lsns_of walked.seen) walked.over) ∷ past) f.managed.log f.managed.tables (if last then Chasing else Scanning) f.spec walked.next f.new_tables
+scanned_meets o past f n name source walked true scanning none names found relation walks turn over =
+    let sees : effect (reply.Scanned 0 (lsns_of walked.seen) walked.over) ≡ Sees (lsns_of walked.seen) true = effect-scanned _ 0 (lsns_of walked.seen) walked.over refl ∙ ap (Sees (lsns_of walked.seen)) over in
+    (scan_ended o past f.managed.log f.managed.tables f.spec f.cursor (lsns_of walked.seen) (own_entry (Scan n) (reply.Scanned 0 (lsns_of walked.seen) walked.over)) scanning sees, none)
+scanned_meets o past f n name source walked false scanning none names found relation walks turn over =
+    (scan_on o past f.managed.log f.managed.tables f.spec f.cursor n name source walked (own_entry (Scan n) (reply.Scanned 0 (lsns_of walked.seen) walked.over)) scanning names found relation walks refl refl turn over, none)
+
+phase-scanned : (past : List Entry) (n : ℕ) (lsns : List ℕ) (last : Bool) → phase past ≡ Scanning → phase (own_entry (Scan n) (reply.Scanned 0 lsns last) ∷ past) ≡ (if last then Chasing else Scanning)
+phase-scanned past n lsns last at =
+    phase_by past (own_entry (Scan n) (reply.Scanned 0 lsns last)) (Sees lsns last) (effect-scanned _ 0 lsns last refl) ∙ ap (λ p. if last then Chasing else p) at
+
+pub scan_took : (catalog : List Declared) (loads : ℕ) (past journal : List Entry) (f : Fields) (m : Machine) (n spare : ℕ) (after : Phase) (source : Relation) (walked : Walked) (lsns : List ℕ)
+    → Holds catalog loads past f m → phase m.past ≡ Scanning → HasPlace m → 1 ≤ n → n ≤ 64 → AreTables f.managed.log (shapes_of catalog) f.managed.tables
+    → source_table f.spec f.managed.tables ≡ Some source → IsRelation source → WalksOn source.rows f.cursor n walked → lsns ≡ map (λ (s : Seen). s.lsn) walked.seen
+    → length f.clients ≤ spare → after ≡ (if walked.over then Chasing else Scanning) → journal ≡ own_entry (Scan n) (reply.Scanned 0 lsns walked.over) ∷ past
+    → Took catalog loads journal (scanned_fields f spare after walked.next) m 0 (Scan n) (reply.Scanned 0 lsns walked.over)
+scan_took catalog loads past journal f m n spare after source walked lsns holds at place some most meet found relation walks named room ends is =
+    let meets = transform_in catalog loads past f m Scanning holds at in
+    let scanning = meets.0 in
+    let under = scanning.under_way in
+    let in_phase = holds.kept.phase_is ∙ now_in catalog loads past f m Scanning holds at in
+    let here = source_named f.managed.tables scanning.began.spec source under.shaped (sym (ap (λ s. source_table s f.managed.tables) under.is_spec) ∙ found) in
+    let turn = scan_turn (opened catalog loads f.managed.log) past f.managed.log f.managed.tables f.spec f.cursor n here.name source walked scanning in_phase holds.kept.manager_meets.log_is meet here.is_one here.found relation walks in
+    let told = effect-scanned (reply.Scanned 0 (lsns_of walked.seen) walked.over) 0 (lsns_of walked.seen) walked.over refl in
+    let kept : IsKept (opened catalog loads f.managed.log) (own_entry (Scan n) (reply.Scanned 0 (lsns_of walked.seen) walked.over) ∷ past) (scanned_fields f spare (if walked.over then Chasing else Scanning) walked.next) = record {
+      legal = (holds.kept.legal, legal-scan (opened catalog loads f.managed.log) past n 0 (lsns_of walked.seen) walked.over (place_here catalog loads past f m (reply.Scanned 0 (lsns_of walked.seen) walked.over) holds place) some most turn);
+      manager_meets = meets-saw (opened catalog loads f.managed.log) past f.managed f.managed (own_entry (Scan n) (reply.Scanned 0 (lsns_of walked.seen) walked.over)) (lsns_of walked.seen) walked.over holds.kept.manager_meets (unchanged f.managed) told;
+      clients_are = holds.kept.clients_are ∙ sym (living_by past (own_entry (Scan n) (reply.Scanned 0 (lsns_of walked.seen) walked.over)) (Sees (lsns_of walked.seen) walked.over) told);
+      room = room;
+      phase_is = phase-scanned past n (lsns_of walked.seen) walked.over in_phase;
+      transform_meets = scanned_meets (opened catalog loads f.managed.log) past f n here.name source walked walked.over scanning meets.1 here.is_one here.found relation walks turn refl;
+    } in
+    let kept_named = subst (λ l. IsKept (opened catalog loads f.managed.log) (own_entry (Scan n) (reply.Scanned 0 l walked.over) ∷ past) (scanned_fields f spare (if walked.over then Chasing else Scanning) walked.next)) (sym named) kept in
+    let kept_after = subst (λ p. IsKept (opened catalog loads f.managed.log) (own_entry (Scan n) (reply.Scanned 0 lsns walked.over) ∷ past) (scanned_fields f spare p walked.next)) (sym ends) kept_named in
+    took catalog loads past journal f (scanned_fields f spare after walked.next) m 0 (Scan n) (reply.Scanned 0 lsns walked.over) holds (no_longer refl) is
+    (subst (λ j. IsKept (opened catalog loads f.managed.log) j (scanned_fields f spare after walked.next)) (sym is) kept_after)
+
+-- ** an attempt to switch **
+
+legal-switch : (o : Opening) (past : List Entry) (answer : Reply) → HasRoom past answer → answer ≡ switch_reply o past → IsLegalEntry o past (own_entry Switch answer)
+unfolding Allows
+legal-switch o past answer room answered = record { room = room; allowed = record { propagator = refl; answered = answered } }
+
+-- what an attempt to switch is answered where the log has ended at the position
+switch-answered : (o : Opening) (past : List Entry) (s : Started) → phase past ≡ Chasing → started past ≡ Some s → position o past ≡ length (log_of o past) → IsShaped s.spec
+    → switch_reply o past ≡ unless_hindered (conflict o past s) (reply.Switched (next_lsn o past))
+switch-answered o past s chasing is read shaped =
+    let none : length (log_of o past) - length (log_of o past) ≡ 0 = omega arith in
+    rw (chasing, is, read, none) (ap (λ v. unless_hindered (conflict o past s) (unless_violated v (reply.Switched (next_lsn o past)))) (no_violation o past s.spec shaped))
+
+chasing-answered : (catalog : List Declared) (loads : ℕ) (past : List Entry) (f : Fields) (m : Machine) → Holds catalog loads past f m → phase m.past ≡ Chasing
+    → (chasing : IsChasing (opened catalog loads f.managed.log) past f.managed.log f.spec)
+    → switch_reply (opened catalog loads f.managed.log) past ≡ unless_hindered (conflict (opened catalog loads f.managed.log) past chasing.began) (reply.Switched (next_lsn (opened catalog loads f.managed.log) past))
+chasing-answered catalog loads past f m holds at chasing =
+    let under = chasing.under_way in
+    switch-answered (opened catalog loads f.managed.log) past chasing.began (holds.kept.phase_is ∙ now_in catalog loads past f m Chasing holds at) under.is_started
+    (under.position ∙ ap length holds.kept.manager_meets.log_is) under.shaped
 
 effect-conflict : (txn : ℕ) → effect (reply.Conflict txn) ≡ Conflicts
 unfolding effect
@@ -152,12 +288,33 @@ effect-switched : (lsn : ℕ) → effect (reply.Switched lsn) ≡ Switches
 unfolding effect
 effect-switched lsn = refl
 
--- what an attempt is answered while the log has ended at the position
-chasing-answered : (o : Opening) (past : List Entry) (log : List Rec) (tables new_tables : List NamedTable) (alive : Option ℕ) (count : ℕ) (spec : Option Spec) (cursor : Option (List Value))
-    → (kept : IsKept o past log tables new_tables alive count Chasing spec cursor) → switch_reply o past ≡ switch_unless o past (conflict o past kept.transform_meets.0.began)
-chasing-answered o past log tables new_tables alive count spec cursor kept =
-    let under = kept.transform_meets.0.under_way in
-    switch-answered o past kept.transform_meets.0.began kept.phase_is under.is_started (under.position ∙ ap length kept.log_is)
+-- whom the machine names is who hinders the transformation
+conflict_here : (catalog : List Declared) (loads : ℕ) (past : List Entry) (f : Fields) (m : Machine) (by : Option ℕ) → Holds catalog loads past f m → conflict_now m.opening m.past ≡ by
+    → (chasing : IsChasing (opened catalog loads f.managed.log) past f.managed.log f.spec) → conflict (opened catalog loads f.managed.log) past chasing.began ≡ by
+conflict_here catalog loads past f m by holds hinders chasing =
+    sym (ap (conflict_with (opened catalog loads f.managed.log) past) chasing.under_way.is_started)
+    ∙ from_view (λ (x : Machine). conflict_now x.opening x.past ≡ by) (opened catalog loads f.managed.log) past m holds.view hinders
+
+abbrev pub drained_fields : Fields → ℕ → Fields
+drained_fields f spare = record { managed = f.managed; spare = spare; clients = f.clients; new_tables = f.new_tables; now = Draining; spec = f.spec; cursor = f.cursor }
+
+pub drained_took : (catalog : List Declared) (loads : ℕ) (past journal : List Entry) (f : Fields) (m : Machine) (spare txn : ℕ)
+    → Holds catalog loads past f m → phase m.past ≡ Chasing → HasPlace m → conflict_now m.opening m.past ≡ Some txn → length f.clients ≤ spare → journal ≡ own_entry Switch (reply.Conflict txn) ∷ past
+    → Took catalog loads journal (drained_fields f spare) m 0 Switch (reply.Conflict txn)
+drained_took catalog loads past journal f m spare txn holds at place hinders room is =
+    let meets = transform_in catalog loads past f m Chasing holds at in
+    let under = meets.0.under_way in
+    let answered = chasing-answered catalog loads past f m holds at meets.0 ∙ ap (λ by. unless_hindered by (reply.Switched (next_lsn (opened catalog loads f.managed.log) past))) (conflict_here catalog loads past f m (Some txn) holds hinders meets.0) in
+    let told = effect-conflict txn in
+    let kept : IsKept (opened catalog loads f.managed.log) (own_entry Switch (reply.Conflict txn) ∷ past) (drained_fields f spare) = record {
+      legal = (holds.kept.legal, legal-switch (opened catalog loads f.managed.log) past (reply.Conflict txn) (place_here catalog loads past f m (reply.Conflict txn) holds place) (sym answered));
+      manager_meets = meets-conflict (opened catalog loads f.managed.log) past f.managed f.managed (own_entry Switch (reply.Conflict txn)) holds.kept.manager_meets (unchanged f.managed) told;
+      clients_are = holds.kept.clients_are ∙ sym (living_by past (own_entry Switch (reply.Conflict txn)) Conflicts told);
+      room = room;
+      phase_is = rw (told, under.is_started, under.blocking) refl;
+      transform_meets = meets.1;
+    } in
+    took catalog loads past journal f (drained_fields f spare) m 0 Switch (reply.Conflict txn) holds (no_longer refl) is (subst (λ j. IsKept (opened catalog loads f.managed.log) j (drained_fields f spare)) (sym is) kept)
 
 given_is : (one other : Spec) → Some one ≡ Some other → one ≡ other
 given_is one other e = cc
@@ -170,103 +327,106 @@ switched_rows log table layout rows are = record {
   same = λ key. are.same key ∙ ap (option_map (λ (s : List Value × ℕ). s.0)) (sym (state-switch log 0 table key));
 }
 
--- a scan turn: the machine that it leaves
-pub kept-scanned : (o : Opening) (past journal : List Entry) (log : List Rec) (tables new_tables : List NamedTable) (alive : Option ℕ) (count : ℕ) (now after : Phase) (spec : Option Spec) (cursor : Option (List Value)) (m : Machine) (n : ℕ) (source : Relation) (walked : Walked) (lsns : List ℕ)
-    → Has o past log tables new_tables alive count now spec cursor m Scanning → 1 ≤ n → n ≤ 64
-    → source_table spec tables ≡ Some source → IsRelation source → WalksOn source.rows cursor n walked → lsns ≡ map (λ (s : Seen). s.lsn) walked.seen
-    → journal ≡ record { actor = 0; event = Scan n; reply = reply.Scanned 0 lsns walked.over } ∷ past
-    → after ≡ (if walked.over then Chasing else Scanning)
-    → IsKept o journal log tables new_tables alive count after spec walked.next
-kept-scanned o past journal log tables new_tables alive count now after spec cursor m n source walked lsns has some most found relation walks named is ends =
-    let scanning = phase_here o past log tables new_tables alive count now spec cursor m Scanning has in
-    let few = from_view (λ _ past. length past < 40000) o past m has.view has.room in
-    let kept = subst (λ p. IsKept o past log tables new_tables alive count p spec cursor) scanning has.kept in
-    let under = kept.transform_meets.0.under_way in
-    let at = source_named tables kept.transform_meets.0.began.spec source under.shaped (sym (ap (λ s. source_table s tables) under.is_spec) ∙ found) in
-    let turn = scan_turn o past log tables new_tables alive count spec cursor n at.name source walked kept at.one at.found relation walks in
-    let entry = legal-scan o past alive n 0 (map (λ (s : Seen). s.lsn) walked.seen) walked.over kept.clients_meet.living few some most turn in
-    rw (is, named, ends) (kept-scan o past log tables new_tables alive count spec cursor n at.name source walked _ kept at.one at.found relation walks refl refl entry)
-
--- an attempt that a transaction hinders
-pub kept-drained : (o : Opening) (past journal : List Entry) (log : List Rec) (tables new_tables : List NamedTable) (alive : Option ℕ) (count : ℕ) (now : Phase) (spec : Option Spec) (cursor : Option (List Value)) (m : Machine) (txn : ℕ)
-    → Has o past log tables new_tables alive count now spec cursor m Chasing → conflict_now m.opening m.past ≡ Some txn
-    → journal ≡ record { actor = 0; event = Switch; reply = reply.Conflict txn } ∷ past
-    → IsKept o journal log tables new_tables alive count Draining spec cursor
-kept-drained o past journal log tables new_tables alive count now spec cursor m txn has hinders is =
-    let chasing = phase_here o past log tables new_tables alive count now spec cursor m Chasing has in
-    let few = from_view (λ _ past. length past < 40000) o past m has.view has.room in
-    let kept = subst (λ p. IsKept o past log tables new_tables alive count p spec cursor) chasing has.kept in
-    let under = kept.transform_meets.0.under_way in
-    let here = from_view (λ o past. conflict_now o past ≡ Some txn) o past m has.view hinders in
-    let with : conflict o past kept.transform_meets.0.began ≡ Some txn = sym (ap (conflict_with o past) under.is_started) ∙ here in
-    let answered = chasing-answered o past log tables new_tables alive count spec cursor kept ∙ ap (switch_unless o past) with in
-    let entry = legal-switch o past alive (reply.Conflict txn) kept.clients_meet.living few (sym answered) in
-    let told = effect-conflict txn in
-    rw is (record {
-      legal = (kept.legal, entry);
-      log_is = rw told kept.log_is;
-      tables_meet = kept.tables_meet;
-      clients_meet = record {
-        living = rw told kept.clients_meet.living;
-        begun = rw told kept.clients_meet.begun;
-        few = (let few = kept.clients_meet.few in omega arith);
+-- the new tables behind the switch
+switched_to : (o : Opening) (past : List Entry) (log : List Rec) (tables fresh : List NamedTable) (spec : Option Spec) (e : Entry)
+    → (chasing : IsChasing o past log spec) → effect e.reply ≡ Switches → log_of o (e ∷ past) ≡ record { txn = 0; body = Switching } ∷ log → AreTables log (shapes_of o.catalog) tables → IsExchange o.catalog spec tables fresh
+    → IsSwitchedTo o (e ∷ past) fresh
+switched_to o past log tables fresh spec e chasing told grown meet made =
+    let s = chasing.began in
+    let under = chasing.under_way in
+    let wants : chasing.began.spec ≡ made.wanted = given_is chasing.began.spec made.wanted (sym under.is_spec ∙ made.is) in
+    let at = source_named tables chasing.began.spec made.source under.shaped (sym (ap (λ s. source_table s tables) under.is_spec) ∙ made.found) in
+    let declared = source_declared o.catalog log tables chasing.began.spec made.source meet under.shaped under.fits at in
+    record {
+      began = chasing.began;
+      is_started = started_told past e Switches told ∙ under.is_started;
+      names = made.names ∙ ap targets_of (sym wants);
+      fresh = made.made ∙ ap (fresh_tables (targets o.catalog made.wanted)) (sym made.rows) ∙ ap (λ w. fresh_tables (targets o.catalog w) (plain_rows fresh)) (sym wants);
+      rows = record {
+        sources = map (λ (s : Seen). s.row) made.source.rows ∷ [];
+        are = rw at.is_one (
+          record {
+            layout = made.source.schema;
+            declared = declared;
+            are = rw grown (switched_rows log at.name made.source.schema _ (rows_meet log at.name made.source made.relation (found_meets o.catalog log tables at.name made.source meet at.found)));
+          },
+          tt,
+        );
+        made = made.rows ∙ ap (λ w. operator o.catalog w (map (λ (s : Seen). s.row) made.source.rows ∷ [])) (sym wants);
       };
-      phase_is = rw (told, under.is_started, under.blocking) refl;
-      transform_meets = kept.transform_meets.1;
-    })
+    }
 
--- the switch
-pub kept-switched : (o : Opening) (past journal : List Entry) (log longer : List Rec) (tables new_tables fresh : List NamedTable) (alive : Option ℕ) (count : ℕ) (now : Phase) (spec : Option Spec) (wanted : Spec) (cursor : Option (List Value)) (m : Machine) (source : Relation) (lsn : ℕ)
-    → Has o past log tables new_tables alive count now spec cursor m Chasing → conflict_now m.opening m.past ≡ None
-    → longer ≡ record { txn = 0; body = Switching } ∷ log → lsn ≡ length longer
-    → spec ≡ Some wanted → source_table spec tables ≡ Some source → IsRelation source
-    → fresh ≡ fresh_tables (targets o.catalog wanted) (operator o.catalog wanted (map (λ (s : Seen). s.row) source.rows ∷ []))
-    → names_of_tables fresh ≡ targets_of wanted → plain_rows fresh ≡ operator o.catalog wanted (map (λ (s : Seen). s.row) source.rows ∷ [])
-    → journal ≡ record { actor = 0; event = Switch; reply = reply.Switched lsn } ∷ past
-    → IsKept o journal longer tables fresh alive count Done spec cursor
-kept-switched o past journal log longer tables new_tables fresh alive count now spec wanted cursor m source lsn has hinders grown counts given found relation made names rows is =
-    let chasing = phase_here o past log tables new_tables alive count now spec cursor m Chasing has in
-    let few = from_view (λ _ past. length past < 40000) o past m has.view has.room in
-    let kept = subst (λ p. IsKept o past log tables new_tables alive count p spec cursor) chasing has.kept in
-    let s = kept.transform_meets.0.began in
-    let under = kept.transform_meets.0.under_way in
-    let here = from_view (λ o past. conflict_now o past ≡ None) o past m has.view hinders in
-    let with : conflict o past s ≡ None = sym (ap (conflict_with o past) under.is_started) ∙ here in
-    let counted : lsn ≡ length log + 1 = counts ∙ ap length grown ∙ omega arith in
-    let next : next_lsn o past ≡ lsn = next-kept o past log tables new_tables alive count Chasing spec cursor kept ∙ sym counted in
-    let answered = chasing-answered o past log tables new_tables alive count spec cursor kept ∙ ap (switch_unless o past) with ∙ ap reply.Switched next in
-    let entry = legal-switch o past alive (reply.Switched lsn) kept.clients_meet.living few (sym answered) in
+abbrev pub switched_fields : Fields → Managed → ℕ → List NamedTable → Fields
+switched_fields f managed spare fresh = record { managed = managed; spare = spare; clients = f.clients; new_tables = fresh; now = Done; spec = f.spec; cursor = f.cursor }
+
+pub switched_took : (catalog : List Declared) (loads : ℕ) (past journal : List Entry) (f : Fields) (m : Machine) (between managed : Managed) (spare lsn : ℕ) (fresh : List NamedTable)
+    → Holds catalog loads past f m → phase m.past ≡ Chasing → HasPlace m → conflict_now m.opening m.past ≡ None → AreTables f.managed.log (shapes_of catalog) f.managed.tables → IsExchange catalog f.spec f.managed.tables fresh
+    → Unchanged f.managed between → Notes between managed Switching lsn → length f.clients ≤ spare → journal ≡ own_entry Switch (reply.Switched lsn) ∷ past
+    → Took catalog loads journal (switched_fields f managed spare fresh) m 0 Switch (reply.Switched lsn)
+switched_took catalog loads past journal f m between managed spare lsn fresh holds at place hinders meet made stays notes room is =
+    let chasing = transform_in catalog loads past f m Chasing holds at in
+    let meets = unchanged_meets (opened catalog loads f.managed.log) past f.managed between holds.kept.manager_meets stays in
+    let next = next_there (opened catalog loads f.managed.log) past between lsn meets notes.place in
+    let answered =
+    chasing-answered catalog loads past f m holds at chasing.0
+    ∙ ap (λ by. unless_hindered by (reply.Switched (next_lsn (opened catalog loads f.managed.log) past))) (conflict_here catalog loads past f m None holds hinders chasing.0)
+    ∙ ap reply.Switched (sym next) in
     let told = effect-switched lsn in
-    let wants : s.spec ≡ wanted = given_is s.spec wanted (sym under.is_spec ∙ given) in
-    let at = source_named tables s.spec source under.shaped (sym (ap (λ s. source_table s tables) under.is_spec) ∙ found) in
-    let declared = source_declared o.catalog log tables s.spec source kept.tables_meet under.shaped under.fits at in
-    let log_grown : log_of o (record { actor = 0; event = Switch; reply = reply.Switched lsn } ∷ past) ≡ record { txn = 0; body = Switching } ∷ log = rw told (ap (λ l. record { txn = 0; body = Switching } ∷ l) (sym kept.log_is)) in
-    rw (is, grown) (record {
-      legal = (kept.legal, entry);
-      log_is = sym log_grown;
-      tables_meet = tables_meet-state o.catalog log _ tables (state-switch log 0) kept.tables_meet;
-      clients_meet = record {
-        living = rw told kept.clients_meet.living;
-        begun = rw told kept.clients_meet.begun;
-        few = (let few = kept.clients_meet.few in omega arith);
-      };
-      phase_is = rw told refl;
-      transform_meets = record {
-        began = s;
-        is_started = rw told under.is_started;
-        names = names ∙ ap targets_of (sym wants);
-        fresh = made ∙ ap (fresh_tables (targets o.catalog wanted)) (sym rows) ∙ ap (λ w. fresh_tables (targets o.catalog w) (plain_rows fresh)) (sym wants);
-        rows = record {
-          sources = map (λ (s : Seen). s.row) source.rows ∷ [];
-          are = rw at.one (
-            record {
-              layout = source.schema;
-              declared = declared;
-              are = rw log_grown (switched_rows log at.name source.schema _ (rows_meet log at.name source relation (found_meets o.catalog log tables at.name source kept.tables_meet at.found)));
-            },
-            tt,
-          );
-          made = rows ∙ ap (λ w. operator o.catalog w (map (λ (s : Seen). s.row) source.rows ∷ [])) (sym wants);
-        };
-      };
-    })
+    let log_grown : log_of (opened catalog loads f.managed.log) (own_entry Switch (reply.Switched lsn) ∷ past) ≡ record { txn = 0; body = Switching } ∷ f.managed.log =
+    log-switched (opened catalog loads f.managed.log) past (own_entry Switch (reply.Switched lsn)) told ∙ ap (λ l. record { txn = 0; body = Switching } ∷ l) (sym holds.kept.manager_meets.log_is) in
+    let grown : managed.log ≡ record { txn = 0; body = Switching } ∷ f.managed.log = notes.log ∙ ap (λ l. record { txn = 0; body = Switching } ∷ l) stays.log in
+    let kept : IsKept (opened catalog loads f.managed.log) (own_entry Switch (reply.Switched lsn) ∷ past) (switched_fields f managed spare fresh) = record {
+      legal = (holds.kept.legal, legal-switch (opened catalog loads f.managed.log) past (reply.Switched lsn) (place_here catalog loads past f m (reply.Switched lsn) holds place) (sym answered));
+      manager_meets = meets-switched (opened catalog loads f.managed.log) past between managed (own_entry Switch (reply.Switched lsn)) Switching lsn meets notes told refl;
+      clients_are = holds.kept.clients_are ∙ sym (living_by past (own_entry Switch (reply.Switched lsn)) Switches told);
+      room = room;
+      phase_is = phase_by past (own_entry Switch (reply.Switched lsn)) Switches told;
+      transform_meets = switched_to (opened catalog loads f.managed.log) past f.managed.log f.managed.tables fresh f.spec (own_entry Switch (reply.Switched lsn)) chasing.0 told log_grown meet made;
+    } in
+    took catalog loads past journal f (switched_fields f managed spare fresh) m 0 Switch (reply.Switched lsn) holds (by_one (record { txn = 0; body = Switching }) grown) is
+    (subst (λ j. IsKept (opened catalog loads f.managed.log) j (switched_fields f managed spare fresh)) (sym is) kept)
+
+-- when the scan has ended, the new tables can be made
+pub can_exchange : (catalog : List Declared) (loads : ℕ) (past : List Entry) (f : Fields) (m : Machine) → Holds catalog loads past f m → phase m.past ≡ Chasing → AreTables f.managed.log (shapes_of catalog) f.managed.tables
+    → CanExchange catalog f.spec f.managed.tables
+can_exchange catalog loads past f m holds at meet =
+    let chasing = (transform_in catalog loads past f m Chasing holds at).0 in
+    let under = chasing.under_way in
+    let there = source_there catalog f.managed.log f.managed.tables chasing.began.spec meet under.shaped under.fits in
+    record {
+      wanted = chasing.began.spec;
+      is = under.is_spec;
+      shaped = under.shaped;
+      fits = under.fits;
+      source = there.source;
+      found = ap (λ s. source_table s f.managed.tables) under.is_spec ∙ there.found;
+      declared = there.declared;
+    }
+
+pub shaped_there : (catalog : List Declared) (loads : ℕ) (past : List Entry) (f : Fields) (m : Machine) → Holds catalog loads past f m → phase m.past ≡ Chasing → IsSomeAnd f.spec IsShaped
+shaped_there catalog loads past f m holds at =
+    let under = (transform_in catalog loads past f m Chasing holds at).0.under_way in
+    subst (λ s. IsSomeAnd s IsShaped) (sym under.is_spec) under.shaped
+
+-- under blocking commit those hinder that have a lock on a source
+conflict-blocking : (o : Opening) (past : List Entry) (s : Started) → s.strategy ≡ Blocking → conflict o past s ≡ least_locking (sources_of s.spec) past (living past)
+conflict-blocking o past s blocking =
+    ap (λ strategy. least (map (λ (l : Living). l.txn) (filter (λ (l : Living). if is_blocking strategy then has_lock_on (sources_of s.spec) l.client past else (is_split s.spec && wrote_on (sources_of s.spec) l.txn (log_of o past))) (living past)))) blocking
+
+pub least_hinders : (catalog : List Declared) (loads : ℕ) (past : List Entry) (f : Fields) (m : Machine) (by : Option ℕ) → Holds catalog loads past f m → phase m.past ≡ Chasing
+    → IfSome f.spec (λ s. by ≡ least_locking (sources_of s) past f.clients) → by ≡ conflict_now m.opening m.past
+least_hinders catalog loads past f m by holds at named =
+    let chasing = (transform_in catalog loads past f m Chasing holds at).0 in
+    let under = chasing.under_way in
+    let is : by ≡ least_locking (sources_of chasing.began.spec) past f.clients = subst (λ g. IfSome g (λ s. by ≡ least_locking (sources_of s) past f.clients)) under.is_spec named in
+    let here = is ∙ ap (least_locking (sources_of chasing.began.spec) past) holds.kept.clients_are ∙ sym (conflict-blocking (opened catalog loads f.managed.log) past chasing.began under.blocking) in
+    subst (λ (x : Machine). by ≡ conflict_now x.opening x.past) holds.view (here ∙ sym (ap (conflict_with (opened catalog loads f.managed.log) past) under.is_started))
+
+-- while the scan has ended and no switch was done, nothing is kept of the tables
+pub chasing_stays : (catalog : List Declared) (loads : ℕ) (past : List Entry) (f : Fields) (m : Machine) (g : Fields) → Holds catalog loads past f m → phase m.past ≡ Chasing
+    → g.managed.log ≡ f.managed.log → g.spec ≡ f.spec → g.now ≡ f.now → g.new_tables ≡ f.new_tables → TransformStays (opened catalog loads f.managed.log) past f g
+chasing_stays catalog loads past f m g holds at log spec now tables meets =
+    let is = now_in catalog loads past f m Chasing holds at in
+    let was = transform_in catalog loads past f m Chasing holds at in
+    let moved : IsChasing (opened catalog loads f.managed.log) past g.managed.log g.spec = subst (λ s. IsChasing (opened catalog loads f.managed.log) past g.managed.log s) (sym spec) (subst (λ l. IsChasing (opened catalog loads f.managed.log) past l f.spec) (sym log) was.0) in
+    subst (λ p. TransformMeets (opened catalog loads f.managed.log) past g.managed.log g.managed.tables p g.spec g.cursor g.new_tables) (sym (now ∙ is)) (moved, tables ∙ was.1)

@@ -13,7 +13,8 @@ use Rattle.sx_log.specs.State.{state_at, after_body, stored}
 use Rattle.sx_heap.specs.declared.tables.NamedTable.{NamedTable}
 use Rattle.sx_heap.specs.Relations.{Relation, row_at, SetsRow}
 use Rattle.sx_heap.specs.NamedTables.{AreNamedApart, table_named, with_table, names_of_tables}
-use Rattle.sx_core.specs.Kept.{TablesMeet}
+use Rattle.sx_txn.specs.Managed.{AreTables}
+use Rattle.sx_core.specs.Kept.{shapes_of}
 
 -- a record of a write
 abbrev write : ℕ → List ℕ → List Value → Option (List Value) → Option (List Value) → Rec
@@ -37,8 +38,8 @@ state-same log txn name key before after q = state-write log txn name key before
 
 -- the tables whose names differ from the written one meet the longer log
 meet-others : (catalog : List Declared) (log : List Rec) (tables : List NamedTable) (txn : ℕ) (name : List ℕ) (key : List Value) (before after : Option (List Value))
-    → AllByRecursion (λ other. same_name name other ≡ false) (names_of_tables tables) → TablesMeet catalog log tables
-    → TablesMeet catalog (write txn name key before after ∷ log) tables
+    → AllByRecursion (λ other. same_name name other ≡ false) (names_of_tables tables) → AreTables log (shapes_of catalog) tables
+    → AreTables (write txn name key before after ∷ log) (shapes_of catalog) tables
 meet-others [] log [] txn name key before after others meets = tt
 meet-others (d ∷ catalog) log (t ∷ tables) txn name key before after others meets = (
   record {
@@ -78,13 +79,13 @@ written_rows log txn name key before after old new table q is sets was =
 
 -- the written table, and the others
 pub tables_meet-write : (catalog : List Declared) (log : List Rec) (tables : List NamedTable) (txn : ℕ) (name : List ℕ) (key : List Value) (before after : Option (List Value)) (old new : Relation)
-    → AreNamedApart tables → table_named tables name ≡ Some old → SetsRow old new key (stored (length log + 1) after) → TablesMeet catalog log tables
-    → TablesMeet catalog (write txn name key before after ∷ log) (with_table tables name new)
+    → AreNamedApart tables → table_named tables name ≡ Some old → SetsRow old new key (stored (length log + 1) after) → AreTables log (shapes_of catalog) tables
+    → AreTables (write txn name key before after ∷ log) (shapes_of catalog) (with_table tables name new)
 unfolding IsDistinct
 tables_meet-write [] log [] txn name key before after old new apart found sets meets = tt
 tables_meet-write (d ∷ catalog) log (t ∷ tables) txn name key before after old new apart found sets meets = by (same_name t.name name) refl (λ is. tables_meet-write catalog log tables txn name key before after old new apart.1 (rest_is t.table old (same_name t.name name) (table_named tables name) is found) sets meets.1)
   where
-    by : (b : Bool) → same_name t.name name ≡ b → (same_name t.name name ≡ false → TablesMeet catalog (write txn name key before after ∷ log) (with_table tables name new)) → TablesMeet (d ∷ catalog) (write txn name key before after ∷ log) (with_table (t ∷ tables) name new)
+    by : (b : Bool) → same_name t.name name ≡ b → (same_name t.name name ≡ false → AreTables (write txn name key before after ∷ log) (shapes_of catalog) (with_table tables name new)) → AreTables (write txn name key before after ∷ log) (shapes_of (d ∷ catalog)) (with_table (t ∷ tables) name new)
     by true is again =
         let named = same_name_tells t.name name is in
         let declared : d.name ≡ name = sym meets.0.name ∙ named in

@@ -1,9 +1,14 @@
 -- Which transaction hinders the switch now.
-use Rattle.std.specs.Prelude.{ℕ, List, Option, Some, None}
+use Rattle.std.specs.Prelude.{ℕ, List, map, filter, Option, Some, None}
 use Rattle.sx_journal.specs.declared.entry.Entry.{Entry}
 use Rattle.sx_model.specs.Openings.{Opening}
-use Rattle.sx_model.specs.Leaves.{Started, started}
-use Rattle.sx_model.specs.Switches.{conflict}
+use Rattle.sx_model.specs.Leaves.{Living, Started, started}
+use Rattle.sx_model.specs.Held.{least}
+use Rattle.sx_model.specs.Switches.{has_lock_on, conflict}
+
+-- the least of these transactions that has a lock on one of these tables
+abbrev pub least_locking : List (List ℕ) → List Entry → List Living → Option ℕ
+least_locking tables past living = least (map (λ (l : Living). l.txn) (filter (λ (l : Living). has_lock_on tables l.client past) living))
 
 -- the least transaction that hinders the switch of a transformation, if one has started
 abbrev pub conflict_with : Opening → List Entry → Option Started → Option ℕ

@@ -1,12 +1,13 @@
 -- What the machine's fields keep of its journal.
-use Rattle.std.specs.Prelude.{◌≡◌, ◌≤◌, ⊤, ℕ, List, [], ◌∷◌, length, map, take, drop, Option, Some, None}
+use Rattle.std.specs.Prelude.{◌≡◌, ◌≤◌, true, ℕ, List, [], ◌∷◌, length, map, take, drop, Option, Some, None}
 use Rattle.sx_values.specs.declared.value.Value.{Value}
 use Rattle.sx_values.specs.declared.catalog.Declared.{Declared}
 use Rattle.sx_log.specs.declared.record.Rec.{Rec}
-use Rattle.sx_log.specs.State.{state_at}
+use Rattle.sx_locks.specs.Locks.{mode_held}
+use Rattle.sx_txn.specs.Managed.{Managed, Shape, Alive, is_live, is_ending as ends_in}
 use Rattle.sx_heap.specs.declared.seen.Seen.{Seen}
 use Rattle.sx_heap.specs.declared.tables.NamedTable.{NamedTable}
-use Rattle.sx_heap.specs.Relations.{Relation, row_at}
+use Rattle.sx_heap.specs.Relations.{Relation}
 use Rattle.sx_heap.specs.NamedTables.{table_named, names_of_tables}
 use Rattle.sx_heap.specs.Walks.{rows_after}
 use Rattle.sx_ops.specs.declared.spec.Spec.{Spec}
@@ -20,35 +21,35 @@ use Rattle.sx_journal.specs.declared.entry.Entry.{Entry}
 use Rattle.sx_model.specs.Openings.{Opening}
 use Rattle.sx_model.specs.Leaves.{Living, living, begun, Started, started, phase}
 use Rattle.sx_model.specs.Logs.{log_of}
+use Rattle.sx_model.specs.Held.{is_ending, lock_of}
 use Rattle.sx_model.specs.Scans.{seen, IsNextSide}
 use Rattle.sx_model.specs.Switches.{position}
 use Rattle.sx_model.specs.Tables.{AreNewTables}
 use Rattle.sx_model.specs.Legal.{Legal}
 use Rattle.sx_core.specs.FreshTables.{fresh_tables}
 
--- a table has the declared name and schema, and at each key what the log leaves there
-pub record MeetsDeclared (log : List Rec) (declared : Declared) (table : NamedTable) : Type 0 where
-  pub name : table.name ≡ declared.name
-  pub schema : table.table.schema ≡ declared.schema
-  pub rows : (key : List Value) → row_at table.table.rows key ≡ state_at log declared.name key
+-- the names and schemas of declared tables
+abbrev pub shapes_of : List Declared → List Shape
+shapes_of catalog = map (λ (d : Declared). record { name = d.name; schema = d.schema }) catalog
 
--- the tables are the declared ones, in order, with the rows that the log leaves
-abbrev pub TablesMeet : List Declared → List Rec → List NamedTable → Type 0
-TablesMeet [] log [] = ⊤
-TablesMeet (declared ∷ catalog) log (table ∷ tables) = MeetsDeclared log declared table × TablesMeet catalog log tables
-TablesMeet [] log (table ∷ tables) = ⊥
-TablesMeet (declared ∷ catalog) log [] = ⊥
+-- the manager has the journal's log, transactions and locks
+pub record ManagerMeets (o : Opening) (past : List Entry) (m : Managed) : Type 0 where
+  pub shapes : m.shapes ≡ shapes_of o.catalog
+  pub log_is : m.log ≡ log_of o past
+  pub begun : m.begun ≡ begun past
+  pub living : map (λ (a : Alive). a.txn) m.living ≡ map (λ (l : Living). l.txn) (living past)
+  pub ending : (txn : ℕ) → is_live m.living txn ≡ true → ends_in m.living txn ≡ is_ending past txn
+  pub locks : (txn : ℕ) (table : List ℕ) (key : List Value) → mode_held m.locks txn table key ≡ lock_of o.catalog past txn table key
 
--- the one client that may live, with its transaction
-abbrev pub living_as : Option ℕ → List Living
-living_as None = []
-living_as (Some txn) = record { client = 1; txn = txn } ∷ []
-
--- who lives, and how many transactions were begun
-pub record ClientsMeet (past : List Entry) (alive : Option ℕ) (count : ℕ) : Type 0 where
-  pub living : living past ≡ living_as alive
-  pub begun : begun past ≡ count
-  pub few : count ≤ length past
+-- what the machine's fields keep besides the opening and the journal: the manager, the room in the journal, the clients with live transactions, and how far the transformation has come
+pub record Fields : Type 0 where
+  pub managed : Managed
+  pub spare : ℕ
+  pub clients : List Living
+  pub new_tables : List NamedTable
+  pub now : Phase
+  pub spec : Option Spec
+  pub cursor : Option (List Value)
 
 -- a transformation that started: a horizontal split under blocking commit that fits, with nothing in the log behind its Mark
 pub record IsUnderWay (o : Opening) (past : List Entry) (log : List Rec) (spec : Option Spec) (s : Started) : Type 0 where
@@ -104,11 +105,11 @@ TransformMeets o past log tables Draining spec cursor new_tables = new_tables �
 TransformMeets o past log tables Late spec cursor new_tables = ⊥
 TransformMeets o past log tables Done spec cursor new_tables = IsSwitchedTo o past new_tables
 
--- the fields meet the journal
-pub record IsKept (o : Opening) (past : List Entry) (log : List Rec) (tables new_tables : List NamedTable) (alive : Option ℕ) (count : ℕ) (now : Phase) (spec : Option Spec) (cursor : Option (List Value)) : Type 0 where
+-- the fields meet the journal, and the journal has room for the end of each live transaction
+pub record IsKept (o : Opening) (past : List Entry) (f : Fields) : Type 0 where
   pub legal : Legal o past
-  pub log_is : log ≡ log_of o past
-  pub tables_meet : TablesMeet o.catalog log tables
-  pub clients_meet : ClientsMeet past alive count
-  pub phase_is : phase past ≡ now
-  pub transform_meets : TransformMeets o past log tables now spec cursor new_tables
+  pub manager_meets : ManagerMeets o past f.managed
+  pub clients_are : f.clients ≡ living past
+  pub room : length f.clients ≤ f.spare
+  pub phase_is : phase past ≡ f.now
+  pub transform_meets : TransformMeets o past f.managed.log f.managed.tables f.now f.spec f.cursor f.new_tables

@@ -1,11 +1,11 @@
 pub mod Answers
-pub mod Changes
+pub mod Asked
+pub mod Clients
 pub mod Conflicts
 pub mod Exchanges
 pub mod FreshTables
 pub mod Kept
 pub mod Loading
 pub mod Machines
-pub mod Meets
+pub mod Refusals
 pub mod Views
-pub mod Writes

@@ -1,5 +1,5 @@
 // The new tables of a transformation, and whose lock hinders its switch.
-ghost use Rattle.std.specs.Prelude.{◌≡◌, ◌∷◌, [], Some, None, map, reverse, IfOk};
+ghost use Rattle.std.specs.Prelude.{◌≡◌, ◌∷◌, [], Option, Some, None, map, reverse, IfOk};
 ghost use Rattle.std.specs.List.{IsDistinct};
 ghost use Rattle.std.specs.Option.{option_copied};
 ghost use Rattle.sx_values.specs.Names.{same_name};
@@ -10,10 +10,14 @@ ghost use Rattle.sx_ops.specs.Operators.{targets_of, operator};
 ghost use Rattle.sx_ops.specs.Targets.{targets};
 ghost use Rattle.sx_model.specs.Effects.{effect};
 ghost use Rattle.sx_model.specs.Switches.{begins, takes_lock, request_names, event_names, has_lock_on};
+ghost use Rattle.sx_model.specs.Held.{lesser};
+ghost use Rattle.sx_core.specs.Clients.{living_of};
+ghost use Rattle.sx_core.specs.Conflicts.{least_locking};
 ghost use Rattle.sx_core.specs.FreshTables.{fresh_table, fresh_tables};
 ghost use Rattle.sx_core.specs.Kept.{plain_rows};
 ghost use Rattle.sx_core.specs.Exchanges.{source_table, source_schema, bare_rows, target_names, AreInOrder, FillTargets};
 
+use crate::clients::Client;
 use crate::uncounted;
 use std::alloc::{AllocError, Global};
 use sx_heap::{Table, Tables};
@@ -103,6 +107,33 @@ fn show_order(table: &Table)
     ensures { IsRelation table.now }
 {
     let _ = table.schema();
+}
+
+// The least of these transactions that has a lock on the table. The oldest entry stands first.
+pub(crate) fn least_locking(clients: &[Client], entries: &[Entry], table: &Name) -> Option<u64>
+    ensures { result ≡ least_locking (table.now ∷ []) (reverse entries.now) (map living_of clients.now) }
+{
+    match clients {
+        [] => None,
+        [first, rest @ ..] => {
+            let other = least_locking(rest, entries, table);
+            if has_lock(entries, first.client, table) {
+                Some(lesser(first.txn, other))
+            } else {
+                other
+            }
+        }
+    }
+}
+
+// The lesser of a transaction and another, if there is another.
+fn lesser(txn: u64, other: Option<u64>) -> u64
+    ensures { result ≡ lesser txn other }
+{
+    match other {
+        None => txn,
+        Some(other) => txn.min(other),
+    }
 }
 
 // Whether the client's transaction, begun last, has a lock on the table. The oldest entry stands first.

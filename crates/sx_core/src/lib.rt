@@ -1,9 +1,9 @@
-//! The machine: it answers each event by the journal, and keeps the tables and the log that follow from it.
+//! The machine: it answers each event by the journal, over a manager of transactions, and makes the new tables.
 #![tactic(auto)]
 
 mod client;
+mod clients;
 mod exchange;
-mod found;
 mod machine;
 mod make;
 mod propagator;

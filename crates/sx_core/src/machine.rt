@@ -2,6 +2,7 @@
 ghost use Rattle.std.specs.Prelude.{◌≡◌};
 ghost use Rattle.sx_core.specs.declared.machine.CoreFault.TheVariants.{Memory};
 
+use crate::clients::Clients;
 use std::alloc::{AllocError, AllocFailed, Global};
 use std::marker::Model;
 use sx_heap::{Cursor, Tables};
@@ -10,14 +11,18 @@ use sx_lists::Copied;
 use sx_log::Log;
 use sx_ops::Spec;
 use sx_sync::Phase;
+use sx_txn::Manager;
 use sx_values::Catalog;
+
+/// How many entries and live transactions make the journal full.
+const FULL: u64 = 50_000;
 
 /// Why an event got no reply. It then left the machine as it was.
 #[derive(Clone, Copy, Debug, PartialEq, Eq)]
 pub enum CoreFault {
     /// Memory ran out.
     Memory,
-    /// The journal is full.
+    /// Entries and live transactions number 50,000 or more.
     Full,
 }
 
@@ -42,14 +47,11 @@ pub struct Core {
     pub(crate) catalog: Catalog,
     /// How many records of the log are those of loaded rows.
     pub(crate) loads: u64,
-    pub(crate) log: Log,
+    /// The tables, the log, and the transactions with their locks.
+    pub(crate) manager: Manager,
     pub(crate) journal: Journal,
-    pub(crate) tables: Tables,
+    pub(crate) clients: Clients,
     pub(crate) new_tables: Tables,
-    /// The transaction of the client, while it lives.
-    pub(crate) living: Option<u64>,
-    /// How many transactions were begun.
-    pub(crate) begun: u64,
     pub(crate) phase: Phase,
     pub(crate) spec: Option<Spec>,
     /// How far the scan has come in its source.
@@ -64,17 +66,21 @@ impl Model for Core {
 
     ghost Value = { Machine };
 
-    ghost view = { λ c. record { opening = record { catalog = c.catalog; loads = oldest c.loads c.log.newest }; past = c.journal.newest } };
+    ghost view = { λ c. record { opening = record { catalog = c.catalog; loads = oldest c.loads c.manager.log }; past = c.journal.newest } };
 
-    ghost invariant = { λ c. (c.loads ≤ length c.log.newest)
-        × IsKept (record { catalog = c.catalog; loads = oldest c.loads c.log.newest }) c.journal.newest c.log.newest c.tables c.new_tables c.living c.begun c.phase c.spec c.cursor };
+    ghost invariant = { λ c. (c.loads ≤ length c.manager.log)
+        × IsKept (record { catalog = c.catalog; loads = oldest c.loads c.manager.log }) c.journal.newest
+        (record { managed = c.manager; spare = c.journal.spare; clients = c.clients.newest; new_tables = c.new_tables; now = c.phase; spec = c.spec; cursor = c.cursor }) };
 }
 
 impl Core {
-    ghost use Rattle.sx_model.specs.Leaves.{phase};
+    ghost use Rattle.std.specs.Prelude.{◌≤◌, ◌+◌, ◌↔◌, IsTrue, true, length, is_some, Some};
+    ghost use Rattle.sx_txn.specs.Managed.{AreTables};
+    ghost use Rattle.sx_model.specs.Leaves.{living, phase, txn_of};
     ghost use Rattle.sx_model.specs.Legal.{Legal};
     ghost use Rattle.sx_model.specs.Logs.{log_of};
-    ghost use Rattle.sx_core.specs.Kept.{TablesMeet};
+    ghost use Rattle.sx_model.specs.Held.{is_ending};
+    ghost use Rattle.sx_core.specs.Kept.{shapes_of};
     ghost use Rattle.sx_core.specs.Views.{NewTablesMeet};
 
     /// How far the transformation has come.
@@ -96,14 +102,14 @@ impl Core {
     pub fn log(&self) -> &Log
         ensures { result.now.newest ≡ log_of self.now.opening self.now.past }
     {
-        &self.log
+        self.manager.log()
     }
 
     /// The declared tables, in the order of their declaration.
     pub fn tables(&self) -> &Tables
-        ensures { TablesMeet self.now.opening.catalog (log_of self.now.opening self.now.past) result.now }
+        ensures { AreTables (log_of self.now.opening self.now.past) (shapes_of self.now.opening.catalog) result.now }
     {
-        &self.tables
+        self.manager.tables()
     }
 
     /// The new tables, in the order of the transformation's text; none before the switch.
@@ -111,5 +117,35 @@ impl Core {
         ensures { NewTablesMeet self.now.opening self.now.past (phase self.now.past) result.now }
     {
         &self.new_tables
+    }
+
+    /// Whether a client has a live transaction.
+    pub fn lives(&self, client: u8) -> bool
+        ensures { result ≡ is_some (txn_of self.now.past client) }
+    {
+        self.txn_of(client).is_some()
+    }
+
+    // The live transaction of a client, if it has one.
+    pub(crate) fn txn_of(&self, client: u8) -> Option<u64>
+        ensures { result ≡ txn_of self.now.past client }
+    {
+        self.clients.txn_of(client)
+    }
+
+    // Whether a client's transaction is ending.
+    pub(crate) fn is_ending(&self, client: u8, txn: u64) -> bool
+        requires { txn_of self.now.past client ≡ Some txn }
+        ensures { result ≡ is_ending self.now.past txn }
+    {
+        self.manager.ending(txn)
+    }
+
+    // Whether the journal has no place for a further entry.
+    pub(crate) fn is_full(&self) -> bool
+        ensures { IsTrue result ↔ (50000 ≤ length self.now.past + length (living self.now.past)) }
+    {
+        let places = FULL.saturating_sub(self.clients.len());
+        self.journal.len() >= places
     }
 }

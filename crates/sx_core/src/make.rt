@@ -1,23 +1,27 @@
 // The machine before its first event, from its tables and the rows that they have from the start.
-ghost use Rattle.std.specs.Prelude.{◌≡◌, [], map, IfOk, IfErr, OnOk, IsSomeAnd};
+ghost use Rattle.std.specs.Prelude.{◌≡◌, ◌+◌, ◌⊎◌, [], map, length, Some, None, IfOk, IfErr, OnOk, IsSomeAnd};
+ghost use Rattle.std.specs.Option.{option_copied};
 ghost use Rattle.std.specs.List.{IsDistinct};
 ghost use Rattle.sx_values.specs.Names.{same_name};
 ghost use Rattle.sx_values.specs.Catalogs.{table_names};
-ghost use Rattle.sx_heap.specs.NamedTables.{AreNamedApart, LacksKeyOf, table_named};
+ghost use Rattle.sx_heap.specs.NamedTables.{AreNamedApart, table_named};
+ghost use Rattle.sx_model.specs.Loads.{loaded_into};
 ghost use Rattle.sx_core.specs.declared.make.MakeFault.TheVariants.{Memory};
-ghost use Rattle.sx_core.specs.Loading.{empty_table, PutsLoad};
-ghost use Rattle.sx_model.specs.Openings.{opening};
-ghost use Rattle.sx_model.specs.Loads.{AreLoads};
+ghost use Rattle.sx_core.specs.Loading.{empty_table, crowded, put_fault, Made, Loads, CanPut, PutsLoad};
 
-use crate::rows::next_lsn;
-use crate::{Core, Load, Loads};
+use crate::clients::Clients;
+use crate::{Core, Load, Loads, uncounted};
 use std::alloc::{AllocError, Global};
 use sx_heap::{Cursor, Table, Tables};
 use sx_journal::Journal;
 use sx_lists::Copied;
 use sx_log::{Body, Log, Rec};
 use sx_sync::Phase;
-use sx_values::{BadRow, Catalog, Declared, Name};
+use sx_txn::Manager;
+use sx_values::{BadRow, Catalog, Declared, Key, Name};
+
+/// How many rows may be loaded into one table.
+const MOST_LOADS: u64 = 100_000;
 
 /// Why no machine was made.
 #[derive(Debug, Drop)]
@@ -59,33 +63,77 @@ impl From<AllocError> for MakeFault {
     }
 }
 
+// Tables with the log that tells how their rows came.
+#[derive(Drop)]
+pub(crate) struct Base {
+    pub(crate) tables: Tables,
+    pub(crate) log: Log,
+}
+
 impl Core {
     /// The machine with the tables of the catalog and these rows in them. No event has come yet.
+    /// The first table in the catalog's order that has too many rows is named before the first
+    /// faulty load.
     pub fn make(alloc: Global, catalog: Catalog, rows: Loads) -> Result<Core, MakeFault>
-        requires { AreLoads catalog rows }
-        ensures made { IfOk result (λ core. core ≡ record { opening = opening catalog rows; past = [] }) }
-        ensures fault { IfErr result (λ fault. fault ≡ Memory) }
+        ensures { Made catalog rows result }
     {
-        let mut tables = empty_tables(alloc, catalog.tables())?;
-        let mut log = Log::new(alloc);
-        for load in rows.into_vec() {
-            put_load(alloc, &mut tables, &mut log, load)?;
+        if let Some(table) = crowded(catalog.tables(), rows.as_slice()) {
+            return Err(MakeFault::TooManyRows {
+                table: table.copy(alloc)?,
+            });
         }
+        let Base { tables, log } = loaded(alloc, &catalog, rows)?;
         Ok(Core {
             alloc,
             catalog,
             loads: log.len(),
-            log,
+            manager: Manager::new(alloc, tables, log),
             journal: Journal::new(alloc),
-            tables,
+            clients: Clients::new(alloc),
             new_tables: Tables::new(alloc),
-            living: None,
-            begun: 0,
             phase: Phase::Idle,
             spec: None,
             cursor: Cursor::start(),
         })
     }
+}
+
+// The first declared table into which too many of these rows are loaded.
+fn crowded<'a>(declared: &'a [Declared], loads: &[Load]) -> Option<&'a Name>
+    ensures { option_copied result ≡ crowded declared.now loads.now }
+{
+    match declared {
+        [] => None,
+        [first, rest @ ..] => {
+            if count_into(&first.name, loads) > MOST_LOADS {
+                Some(&first.name)
+            } else {
+                crowded(rest, loads)
+            }
+        }
+    }
+}
+
+// How many of these rows are loaded into a table.
+fn count_into(name: &Name, loads: &[Load]) -> u64
+    ensures { result ≡ length (loaded_into name.now loads.now) }
+{
+    loads.iter().filter(|load| load.table == *name).count() as u64
+}
+
+// The tables of the catalog with these rows.
+fn loaded(alloc: Global, catalog: &Catalog, rows: Loads) -> Result<Base, MakeFault>
+    ensures { Loads catalog.now rows result }
+{
+    let tables = empty_tables(alloc, catalog.tables())?;
+    let mut base = Base {
+        tables,
+        log: Log::new(alloc),
+    };
+    for load in rows.into_vec() {
+        put_load(alloc, &mut base, load)?;
+    }
+    Ok(base)
 }
 
 // The declared tables, in order and without rows.
@@ -102,24 +150,50 @@ fn empty_tables(alloc: Global, declared: &[Declared]) -> Result<Tables, AllocErr
 }
 
 // Puts a loaded row into its table and notes it in the log.
-fn put_load(alloc: Global, tables: &mut Tables, log: &mut Log, load: Load) -> Result<(), AllocError>
-    requires { IsSomeAnd (table_named tables.old load.table) (LacksKeyOf load.row) }
-    ensures ok { OnOk result (IsSomeAnd (table_named tables.old load.table) (PutsLoad log.old.newest log.new.newest tables.old tables.new load)) }
-    ensures apart { AreNamedApart tables.old }
+fn put_load(alloc: Global, base: &mut Base, load: Load) -> Result<(), MakeFault>
+    ensures ok { OnOk result (IsSomeAnd (table_named base.old.tables load.table) (PutsLoad base.old.log.newest base.new.log.newest base.old.tables base.new.tables load)) }
+    ensures apart { AreNamedApart base.old.tables }
+    ensures err { IfErr result (λ fault. (fault ≡ Memory) ⊎ (put_fault (table_named base.old.tables load.table) (length base.old.log.newest + 1) load ≡ Some fault)) }
 {
-    let Some(table) = tables.find(&load.table) else {
-        unreachable!();
-    };
-    let key = table.schema().key_of(alloc, &load.row)?;
+    let lsn = next_lsn(&base.log);
+    let key = key_to_put(alloc, &base.tables, &load, lsn)?;
     let Load { table, row } = load;
-    log.reserve(1)?;
-    tables.insert(&table, row.copy(alloc)?, next_lsn(log))?;
+    base.log.reserve(1)?;
+    base.tables.insert(&table, row.copy(alloc)?, lsn)?;
     let body = Body::Write {
         table,
         key,
         before: None,
         after: Some(row),
     };
-    log.append(Rec { txn: 0, body });
+    base.log.append(Rec { txn: 0, body });
     Ok(())
+}
+
+// The key of the load at a place, whose row its table admits and lacks.
+fn key_to_put(alloc: Global, tables: &Tables, load: &Load, place: u64) -> Result<Key, MakeFault>
+    ensures ok { IfOk result (λ key. IsSomeAnd (table_named tables.now load.now.table) (CanPut load.now key)) }
+    ensures apart { AreNamedApart tables.now }
+    ensures err { IfErr result (λ fault. (fault ≡ Memory) ⊎ (put_fault (table_named tables.now load.now.table) place load.now ≡ Some fault)) }
+{
+    let Some(table) = tables.find(&load.table) else {
+        return Err(MakeFault::NoTable { place });
+    };
+    match table.schema().admits(&load.row) {
+        Err(bad) => Err(MakeFault::BadRow { place, bad }),
+        Ok(()) => {
+            let key = table.schema().key_of(alloc, &load.row)?;
+            match uncounted::get(table, &key) {
+                Some(_) => Err(MakeFault::RepeatedKey { place }),
+                None => Ok(key),
+            }
+        }
+    }
+}
+
+// The LSN of the next record.
+fn next_lsn(log: &Log) -> u64
+    ensures { result ≡ length log.now.newest + 1 }
+{
+    log.as_slice().len() as u64 + 1
 }

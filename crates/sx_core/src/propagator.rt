@@ -1,5 +1,5 @@
 // The propagator's events.
-ghost use Rattle.std.specs.Prelude.{◌≡◌, ◌≤◌, ◌<◌, length, map, reverse, Option, Some, None, IsSome, IfSome, IsSomeAnd, IfOk, if◌then◌else◌};
+ghost use Rattle.std.specs.Prelude.{◌≡◌, ◌≤◌, map, reverse, Option, Some, None, IsSome, IfSome, IsSomeAnd, IfOk, if◌then◌else◌};
 ghost use Rattle.sx_ops.specs.Checks.{IsShaped, spec_fault};
 ghost use Rattle.sx_ops.specs.Operators.{sources_of};
 ghost use Rattle.sx_sync.specs.declared.Phase.TheVariants.{Idle, Scanning, Chasing};
@@ -8,18 +8,21 @@ ghost use Rattle.sx_journal.specs.declared.entry.Event.TheVariants.{Start, Scan,
 ghost use Rattle.sx_model.specs.Leaves.{phase};
 ghost use Rattle.sx_model.specs.Legal.{ScanAnswer};
 ghost use Rattle.sx_model.specs.Replies.{start_reply};
-ghost use Rattle.sx_model.specs.Switches.{switch_reply, has_lock_on};
+ghost use Rattle.sx_model.specs.Switches.{switch_reply};
 ghost use Rattle.sx_core.specs.Answers.{Answers};
-ghost use Rattle.sx_core.specs.Conflicts.{conflict_now};
+ghost use Rattle.sx_core.specs.Asked.{HasPlace};
+ghost use Rattle.sx_core.specs.Clients.{living_of};
+ghost use Rattle.sx_core.specs.Conflicts.{conflict_now, least_locking};
 ghost use Rattle.sx_core.specs.Exchanges.{source_table, WalksIn, CanExchange, IsExchange};
 
-use crate::exchange::{has_lock, new_tables, source_table};
+use crate::clients::Client;
+use crate::exchange::{least_locking, new_tables, source_table};
 use crate::{Core, CoreFault, uncounted};
 use std::alloc::{AllocError, Global};
 use sx_heap::{Cursor, Seen, Tables, Walked};
 use sx_journal::{Entry, Event, Reply};
 use sx_lists::Copied;
-use sx_log::{Body, Rec};
+use sx_log::Body;
 use sx_ops::Spec;
 use sx_sync::{Phase, Strategy};
 use sx_values::{Catalog, Numbers};
@@ -31,16 +34,27 @@ impl Core {
         requires shaped { IsShaped spec }
         requires fits { spec_fault self.old.opening.catalog spec ≡ None }
         requires blocking { strategy ≡ Blocking }
-        requires room { length self.old.past < 40000 }
         ensures { Answers (λ reply. reply ≡ start_reply self.old.opening self.old.past spec) self.old self.new 0 (Start spec strategy) result }
     {
-        self.journal.reserve(1)?;
-        self.log.reserve(1)?;
+        if self.is_full() {
+            return Err(CoreFault::Full);
+        }
+        self.mark(spec, strategy)
+    }
+
+    // Starts it where the journal has a place.
+    fn mark(&mut self, spec: Spec, strategy: Strategy) -> Result<Reply, CoreFault>
+        requires idle { phase self.old.past ≡ Idle }
+        requires place { HasPlace self.old }
+        requires shaped { IsShaped spec }
+        requires fits { spec_fault self.old.opening.catalog spec ≡ None }
+        requires blocking { strategy ≡ Blocking }
+        ensures { Answers (λ reply. reply ≡ start_reply self.old.opening self.old.past spec) self.old self.new 0 (Start spec strategy) result }
+    {
+        self.journal.reserve(self.clients.room_and(1))?;
         let (kept, event) = started(self.alloc, spec, strategy)?;
-        let lsn = self.log.append(Rec {
-            txn: 0,
-            body: Body::Mark,
-        });
+        self.manager.room(1)?;
+        let lsn = self.manager.note(Body::Mark);
         self.phase = Phase::Scanning;
         self.spec = Some(kept);
         self.cursor = Cursor::start();
@@ -57,10 +71,29 @@ impl Core {
         requires scanning { phase self.old.past ≡ Scanning }
         requires some { 1 ≤ n }
         requires few { n ≤ 64 }
-        requires room { length self.old.past < 40000 }
         ensures { Answers (ScanAnswer self.old.opening self.old.past n) self.old self.new 0 (Scan n) result }
     {
-        let walked = walk_source(self.alloc, &self.spec, &self.tables, &self.cursor, n)?;
+        if self.is_full() {
+            return Err(CoreFault::Full);
+        }
+        self.walk_on(n)
+    }
+
+    // The turn where the journal has a place.
+    fn walk_on(&mut self, n: u64) -> Result<Reply, CoreFault>
+        requires scanning { phase self.old.past ≡ Scanning }
+        requires place { HasPlace self.old }
+        requires some { 1 ≤ n }
+        requires few { n ≤ 64 }
+        ensures { Answers (ScanAnswer self.old.opening self.old.past n) self.old self.new 0 (Scan n) result }
+    {
+        let walked = walk_source(
+            self.alloc,
+            &self.spec,
+            self.manager.tables(),
+            &self.cursor,
+            n,
+        )?;
         let lsns = lsns_of(self.alloc, walked.seen.as_slice())?;
         let reply = Reply::Scanned {
             side: 0,
@@ -68,7 +101,7 @@ impl Core {
             last: walked.over,
         };
         let answer = reply.copy(self.alloc)?;
-        self.journal.reserve(1)?;
+        self.journal.reserve(self.clients.room_and(1))?;
         self.phase = phase_behind(walked.over);
         self.cursor = walked.next;
         self.journal.append(Entry {
@@ -82,9 +115,11 @@ impl Core {
     /// An attempt to switch: the new tables are made of the source as it is now, unless a transaction hinders it.
     pub fn switch(&mut self) -> Result<Reply, CoreFault>
         requires chasing { phase self.old.past ≡ Chasing }
-        requires room { length self.old.past < 40000 }
         ensures { Answers (λ reply. reply ≡ switch_reply self.old.opening self.old.past) self.old self.new 0 Switch result }
     {
+        if self.is_full() {
+            return Err(CoreFault::Full);
+        }
         match self.conflict() {
             Some(txn) => self.drain(txn),
             None => self.exchange(),
@@ -96,22 +131,17 @@ impl Core {
         requires { phase self.now.past ≡ Chasing }
         ensures { result ≡ conflict_now self.now.opening self.now.past }
     {
-        let txn = self.living?;
-        if locks_source(self.journal.as_slice(), &self.spec) {
-            Some(txn)
-        } else {
-            None
-        }
+        least_on_source(self.clients.as_slice(), self.journal.as_slice(), &self.spec)
     }
 
     // The attempt is refused, and the old transaction is drained.
     fn drain(&mut self, txn: u64) -> Result<Reply, CoreFault>
         requires chasing { phase self.old.past ≡ Chasing }
-        requires room { length self.old.past < 40000 }
+        requires place { HasPlace self.old }
         requires hindered { conflict_now self.old.opening self.old.past ≡ Some txn }
         ensures { Answers (λ reply. reply ≡ switch_reply self.old.opening self.old.past) self.old self.new 0 Switch result }
     {
-        self.journal.reserve(1)?;
+        self.journal.reserve(self.clients.room_and(1))?;
         self.phase = Phase::Draining;
         self.journal.append(Entry {
             actor: 0,
@@ -124,17 +154,14 @@ impl Core {
     // The new tables become visible.
     fn exchange(&mut self) -> Result<Reply, CoreFault>
         requires chasing { phase self.old.past ≡ Chasing }
-        requires room { length self.old.past < 40000 }
+        requires place { HasPlace self.old }
         requires free { conflict_now self.old.opening self.old.past ≡ None }
         ensures { Answers (λ reply. reply ≡ switch_reply self.old.opening self.old.past) self.old self.new 0 Switch result }
     {
-        let fresh = exchanged(self.alloc, &self.catalog, &self.spec, &self.tables)?;
-        self.journal.reserve(1)?;
-        self.log.reserve(1)?;
-        let lsn = self.log.append(Rec {
-            txn: 0,
-            body: Body::Switch,
-        });
+        let fresh = exchanged(self.alloc, &self.catalog, &self.spec, self.manager.tables())?;
+        self.journal.reserve(self.clients.room_and(1))?;
+        self.manager.room(1)?;
+        let lsn = self.manager.note(Body::Switch);
         self.phase = Phase::Done;
         self.new_tables = fresh;
         self.journal.append(Entry {
@@ -194,13 +221,13 @@ fn phase_behind(over: bool) -> Phase
     }
 }
 
-// Whether the client's transaction has a lock on the source. The oldest entry stands first.
-fn locks_source(entries: &[Entry], spec: &Option<Spec>) -> bool
+// The least of these transactions that has a lock on the source. The oldest entry stands first.
+fn least_on_source(clients: &[Client], entries: &[Entry], spec: &Option<Spec>) -> Option<u64>
     requires { IsSomeAnd spec.now IsShaped }
-    ensures { IfSome spec.now (λ s. result ≡ has_lock_on (sources_of s) 1 (reverse entries.now)) }
+    ensures { IfSome spec.now (λ s. result ≡ least_locking (sources_of s) (reverse entries.now) (map living_of clients.now)) }
 {
     match spec {
-        Some(Spec::Part { table, .. }) => has_lock(entries, 1, table),
+        Some(Spec::Part { table, .. }) => least_locking(clients, entries, table),
         _ => unreachable!(),
     }
 }

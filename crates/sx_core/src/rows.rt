@@ -1,166 +1,223 @@
-// Requests that write a row.
-ghost use Rattle.std.specs.Prelude.{◌≡◌, ◌<◌, ◌+◌, length, Option, Some, None, OnErr, IfOk, IfErr};
-ghost use Rattle.sx_sync.specs.declared.Phase.TheVariants.{Idle};
-ghost use Rattle.sx_core.specs.declared.machine.CoreFault.TheVariants.{Memory};
+// Requests that read or write the row of a key.
+ghost use Rattle.std.specs.Prelude.{◌≡◌, Option, Some, None, IfOk, IsSome, IsSomeAnd, option_map};
+ghost use Rattle.sx_values.specs.Catalogs.{schema_of};
+ghost use Rattle.sx_heap.specs.Relations.{row_at};
+ghost use Rattle.sx_heap.specs.NamedTables.{table_named};
 ghost use Rattle.sx_core.specs.Answers.{AnswersClient};
-ghost use Rattle.sx_model.specs.Leaves.{phase, txn_of};
-ghost use Rattle.sx_model.specs.Replies.{client_reply};
-ghost use Rattle.sx_core.specs.Changes.{IsChange};
-ghost use Rattle.sx_core.specs.Meets.{MeetsRow, MeetsKey};
+ghost use Rattle.sx_core.specs.Asked.{Comes, HasPlace, IsInside, asked_for};
+ghost use Rattle.sx_core.specs.Refusals.{key_refused, change_refused, change_fault, row_told, read_told, read_told_of, write_told};
 
-use crate::found::{Found, put_image};
 use crate::{Core, CoreFault};
+use std::alloc::{AllocError, Global};
+use std::sync::ledger::Ledger;
+use sx_heap::Tables;
 use sx_journal::{Entry, Event, Reply, Request};
 use sx_lists::Copied;
-use sx_log::{Body, Log, Rec};
-use sx_values::{Key, Name, Row};
+use sx_steps::Steps;
+use sx_txn::{Change, TxnRead, TxnWrite};
+use sx_values::{BadRow, Catalog, Key, Name, Row, Schema};
 
 impl Core {
-    // What a row meets.
-    fn row_found(&self, table: &Name, row: &Row) -> Result<Found, CoreFault>
-        ensures found { IfOk result (MeetsRow self.now.opening self.now.past table.now row.now) }
-        ensures fault { IfErr result (λ fault. fault ≡ Memory) }
-    {
-        Ok(Found::of_row(self.alloc, &self.tables, table, row)?)
-    }
-
-    // What a key meets.
-    fn key_found(&self, table: &Name, key: &Key) -> Result<Found, CoreFault>
-        ensures found { IfOk result (MeetsKey self.now.opening self.now.past table.now key.now) }
-        ensures fault { IfErr result (λ fault. fault ≡ Memory) }
-    {
-        Ok(Found::of_key(self.alloc, &self.tables, table, key)?)
-    }
-
-    // Puts a row in where its key has none.
-    pub(crate) fn insert(
-        &mut self,
-        actor: u8,
-        txn: u64,
-        table: Name,
-        row: Row,
-    ) -> Result<Reply, CoreFault>
-        requires actor { actor ≡ 1 }
-        requires idle { phase self.old.past ≡ Idle }
-        requires room { length self.old.past < 40000 }
-        requires inside { txn_of self.old.past actor ≡ Some txn }
-        ensures { AnswersClient self.old self.new actor (Request.Insert table row) result }
-    {
-        let found = self.row_found(&table, &row)?;
-        match found {
-            Found::Refused(reply) => self.note(actor, Request::Insert { table, row }, reply),
-            Found::At { key, before } => match before {
-                Some(_) => self.note(actor, Request::Insert { table, row }, Reply::Exists),
-                None => {
-                    let name = table.copy(self.alloc)?;
-                    let after = row.copy(self.alloc)?;
-                    let request = Request::Insert { table, row };
-                    self.write(actor, txn, request, name, key, None, Some(after))
-                }
-            },
-        }
-    }
-
-    // Puts a row in the place of the row of its key.
-    pub(crate) fn update(
-        &mut self,
-        actor: u8,
-        txn: u64,
-        table: Name,
-        row: Row,
-    ) -> Result<Reply, CoreFault>
-        requires actor { actor ≡ 1 }
-        requires idle { phase self.old.past ≡ Idle }
-        requires room { length self.old.past < 40000 }
-        requires inside { txn_of self.old.past actor ≡ Some txn }
-        ensures { AnswersClient self.old self.new actor (Request.Update table row) result }
-    {
-        let found = self.row_found(&table, &row)?;
-        match found {
-            Found::Refused(reply) => self.note(actor, Request::Update { table, row }, reply),
-            Found::At { key, before } => match before {
-                None => self.note(actor, Request::Update { table, row }, Reply::Missing),
-                Some(before) => {
-                    let name = table.copy(self.alloc)?;
-                    let after = row.copy(self.alloc)?;
-                    let request = Request::Update { table, row };
-                    self.write(actor, txn, request, name, key, Some(before), Some(after))
-                }
-            },
-        }
-    }
-
-    // Takes the row of a key out.
-    pub(crate) fn delete(
+    // Reads the row of a key.
+    pub(crate) fn read<L: Ledger>(
         &mut self,
         actor: u8,
         txn: u64,
         table: Name,
         key: Key,
+        steps: &mut Steps<L>,
     ) -> Result<Reply, CoreFault>
-        requires actor { actor ≡ 1 }
-        requires idle { phase self.old.past ≡ Idle }
-        requires room { length self.old.past < 40000 }
-        requires inside { txn_of self.old.past actor ≡ Some txn }
-        ensures { AnswersClient self.old self.new actor (Request.Delete table key) result }
+        requires comes { Comes self.old actor }
+        requires place { HasPlace self.old }
+        requires inside { IsInside self.old actor txn }
+        ensures { AnswersClient self.old self.new actor (Request.Read table key) result }
     {
-        let found = self.key_found(&table, &key)?;
-        match found {
-            Found::Refused(reply) => self.note(actor, Request::Delete { table, key }, reply),
-            Found::At { key: at, before } => match before {
-                None => self.note(actor, Request::Delete { table, key }, Reply::Missing),
-                Some(before) => {
-                    let name = table.copy(self.alloc)?;
-                    let request = Request::Delete { table, key };
-                    self.write(actor, txn, request, name, at, Some(before), None)
-                }
-            },
+        match key_refusal(&self.catalog, &table, &key) {
+            Some(reply) => self.note(actor, Request::Read { table, key }, reply),
+            None => self.read_there(actor, txn, table, key, steps),
         }
     }
 
-    // Writes an image at a key for a request that asks for it, with its record and its entry.
-    fn write(
+    // Reads the row of a key that its table admits.
+    fn read_there<L: Ledger>(
         &mut self,
         actor: u8,
         txn: u64,
-        request: Request,
         table: Name,
         key: Key,
-        before: Option<Row>,
-        after: Option<Row>,
+        steps: &mut Steps<L>,
     ) -> Result<Reply, CoreFault>
-        requires actor { actor ≡ 1 }
-        requires idle { phase self.old.past ≡ Idle }
-        requires room { length self.old.past < 40000 }
-        requires inside { txn_of self.old.past actor ≡ Some txn }
-        requires change { IsChange self.old.opening self.old.past actor txn request table key before after }
-        ensures { AnswersClient self.old self.new actor request result }
+        requires comes { Comes self.old actor }
+        requires place { HasPlace self.old }
+        requires inside { IsInside self.old actor txn }
+        requires admitted { key_refused (schema_of self.old.opening.catalog table) key ≡ None }
+        ensures { AnswersClient self.old self.new actor (Request.Read table key) result }
     {
-        let lsn = next_lsn(&self.log);
-        self.journal.reserve(1)?;
-        self.log.reserve(1)?;
-        put_image(self.alloc, &mut self.tables, &table, &key, &after, lsn)?;
-        self.log.append(Rec {
-            txn,
-            body: Body::Write {
-                table,
-                key,
-                before,
-                after,
-            },
-        });
+        let row = row_there(self.alloc, self.manager.tables(), &table, &key, steps)?;
+        self.journal.reserve(self.clients.room_and(1))?;
+        let read = self.manager.read(txn, &table, &key, steps)?;
+        let answer = read_told_of(&read, row);
         self.journal.append(Entry {
             actor,
-            event: Event::Client(request),
-            reply: Reply::Done { lsn },
+            event: Event::Client(Request::Read { table, key }),
+            reply: read_told(read),
         });
-        Ok(Reply::Done { lsn })
+        Ok(answer)
+    }
+
+    // Changes the row of a key.
+    pub(crate) fn write<L: Ledger>(
+        &mut self,
+        actor: u8,
+        txn: u64,
+        table: Name,
+        change: Change,
+        steps: &mut Steps<L>,
+    ) -> Result<Reply, CoreFault>
+        requires comes { Comes self.old actor }
+        requires place { HasPlace self.old }
+        requires inside { IsInside self.old actor txn }
+        ensures { AnswersClient self.old self.new actor (asked_for table change) result }
+    {
+        match change_refusal(&self.catalog, &table, &change) {
+            Some(reply) => self.note(actor, asked_for(table, change), reply),
+            None => self.write_there(actor, txn, table, change, steps),
+        }
+    }
+
+    // Makes a change that its table admits, if the locks and the row of its key allow it.
+    fn write_there<L: Ledger>(
+        &mut self,
+        actor: u8,
+        txn: u64,
+        table: Name,
+        change: Change,
+        steps: &mut Steps<L>,
+    ) -> Result<Reply, CoreFault>
+        requires comes { Comes self.old actor }
+        requires place { HasPlace self.old }
+        requires inside { IsInside self.old actor txn }
+        requires admitted { change_refused (schema_of self.old.opening.catalog table) change ≡ None }
+        ensures { AnswersClient self.old self.new actor (asked_for table change) result }
+    {
+        let asked = change.copy(self.alloc)?;
+        self.journal.reserve(self.clients.room_and(1))?;
+        let answer = self.manager.write(txn, &table, change, steps)?;
+        self.journal.append(Entry {
+            actor,
+            event: Event::Client(asked_for(table, asked)),
+            reply: write_told(answer),
+        });
+        Ok(write_told(answer))
     }
 }
 
-// The LSN of the next record.
-pub(crate) fn next_lsn(log: &Log) -> u64
-    ensures { result ≡ length log.now.newest + 1 }
+// A copy of the row that a key has in the table of a name, or None.
+fn row_there<L: Ledger>(
+    alloc: Global,
+    tables: &Tables,
+    name: &Name,
+    key: &Key,
+    steps: &mut Steps<L>,
+) -> Result<Option<Row>, AllocError>
+    requires { IsSome (table_named tables.now name.now) }
+    ensures { IfOk result (λ row. IsSomeAnd (table_named tables.now name.now) (λ table. row ≡ option_map (λ s. s.0) (row_at table.rows key.now))) }
 {
-    log.as_slice().len() as u64 + 1
+    let Some(table) = tables.find(name) else {
+        unreachable!()
+    };
+    match table.get(key, steps) {
+        None => Ok(None),
+        Some((row, _)) => Ok(Some(row.copy(alloc)?)),
+    }
+}
+
+// What a key is refused with, by the schema of its table.
+fn key_refusal(catalog: &Catalog, table: &Name, key: &Key) -> Option<Reply>
+    ensures { result ≡ key_refused (schema_of catalog.now table.now) key.now }
+{
+    match catalog.schema(table) {
+        None => Some(Reply::NoTable),
+        Some(schema) => match schema.admits_key(key) {
+            Ok(()) => None,
+            Err(bad) => Some(Reply::BadRow { bad }),
+        },
+    }
+}
+
+// The same of a change.
+fn change_refusal(catalog: &Catalog, table: &Name, change: &Change) -> Option<Reply>
+    ensures { result ≡ change_refused (schema_of catalog.now table.now) change.now }
+{
+    match catalog.schema(table) {
+        None => Some(Reply::NoTable),
+        Some(schema) => match change_fault(schema, change) {
+            None => None,
+            Some(bad) => Some(Reply::BadRow { bad }),
+        },
+    }
+}
+
+// Why a schema doesn't admit a change.
+fn change_fault(schema: &Schema, change: &Change) -> Option<BadRow>
+    ensures { result ≡ change_fault schema.now change.now }
+{
+    match change {
+        Change::Insert(row) | Change::Replace(row) => schema.admits(row).err(),
+        Change::Delete(key) => schema.admits_key(key).err(),
+    }
+}
+
+// The request that asks for a change of a table.
+fn asked_for(table: Name, change: Change) -> Request
+    ensures { result ≡ asked_for table change }
+{
+    match change {
+        Change::Insert(row) => Request::Insert { table, row },
+        Change::Replace(row) => Request::Update { table, row },
+        Change::Delete(key) => Request::Delete { table, key },
+    }
+}
+
+// What the manager's answer to a read tells.
+fn read_told(read: TxnRead) -> Reply
+    ensures { result ≡ read_told read }
+{
+    match read {
+        TxnRead::Row { row } => Reply::Row { row },
+        TxnRead::Absent => Reply::Absent,
+        TxnRead::Held { by } => Reply::Held { by },
+    }
+}
+
+// The same, with the row that was there before it.
+fn read_told_of(read: &TxnRead, there: Option<Row>) -> Reply
+    ensures { result ≡ read_told_of read.now there }
+{
+    match read {
+        TxnRead::Row { .. } | TxnRead::Absent => row_told(there),
+        TxnRead::Held { by } => Reply::Held { by: *by },
+    }
+}
+
+// A row, or that there is none.
+fn row_told(row: Option<Row>) -> Reply
+    ensures { result ≡ row_told row }
+{
+    match row {
+        Some(row) => Reply::Row { row },
+        None => Reply::Absent,
+    }
+}
+
+// What the manager's answer to a change tells.
+fn write_told(answer: TxnWrite) -> Reply
+    ensures { result ≡ write_told answer }
+{
+    match answer {
+        TxnWrite::Done { lsn } => Reply::Done { lsn },
+        TxnWrite::Held { by } => Reply::Held { by },
+        TxnWrite::Exists => Reply::Exists,
+        TxnWrite::Missing => Reply::Missing,
+    }
 }

@@ -4,24 +4,123 @@ ghost use Rattle.sx_values.specs.SchemaFaults.{IsDeclarable};
 ghost use Rattle.sx_values.specs.declared.schema.Column.{Column as TheColumn};
 ghost use Rattle.sx_ops.specs.Checks.{IsShaped, spec_fault};
 ghost use Rattle.sx_sync.specs.declared.Phase.TheVariants.{Idle, Scanning, Chasing};
-ghost use Rattle.sx_model.specs.Built.{IsBuilt};
 ghost use Rattle.sx_model.specs.Leaves.{phase};
 
-use crate::{Core, CoreFault, Loads, MakeFault, uncounted};
+use crate::{Core, CoreFault, Load, Loads, MakeFault, uncounted};
 use std::alloc::Global;
+use std::marker::Brand;
 use std::process::Abort;
+use std::sync::ledger::{Blank, Ledger};
 use std::test::Fail;
 use sx_journal::{Reply, Request};
 use sx_lists::Copied;
 use sx_ops::{Cmp, Spec, Test, Tests};
+use sx_steps::Steps;
 use sx_sync::{Phase, Strategy};
-use sx_values::{Catalog, Column, Columns, Key, Kind, Name, Numbers, Row, Schema, Value};
+use sx_values::{BadRow, Catalog, Column, Columns, Key, Kind, Name, Numbers, Row, Schema, Value};
 
 #[test]
 fn answers_a_client(rt: HostRuntime) -> Result<(), Fail> {
     let alloc = rt.alloc();
     let mut core = machine_of(&rt, alloc)?;
-    assert_answers(&rt, alloc, &mut core)
+    assert_answered(&rt, alloc, &mut core)
+}
+
+#[test]
+fn ends_a_transaction_by_undo(rt: HostRuntime) -> Result<(), Fail> {
+    let alloc = rt.alloc();
+    let mut core = machine_of(&rt, alloc)?;
+    assert_rolled_back(&rt, alloc, &mut core)
+}
+
+#[test]
+fn names_the_least_holder(rt: HostRuntime) -> Result<(), Fail> {
+    let alloc = rt.alloc();
+    let mut core = machine_with_row(&rt, alloc)?;
+    assert_least(&rt, alloc, &mut core)
+}
+
+#[test]
+fn raises_a_lock_of_its_own(rt: HostRuntime) -> Result<(), Fail> {
+    let alloc = rt.alloc();
+    let mut core = machine_with_row(&rt, alloc)?;
+    assert_raised(&rt, alloc, &mut core)
+}
+
+#[test]
+fn undoes_a_delete_and_an_insert_of_one_key(rt: HostRuntime) -> Result<(), Fail> {
+    let alloc = rt.alloc();
+    let mut core = machine_with_row(&rt, alloc)?;
+    assert_both_undone(&rt, alloc, &mut core)
+}
+
+#[test]
+fn shows_what_was_there_before_a_rollback(rt: HostRuntime) -> Result<(), Fail> {
+    let alloc = rt.alloc();
+    let mut core = machine_with_row(&rt, alloc)?;
+    assert_not_seen(&rt, alloc, &mut core)
+}
+
+#[test]
+fn a_refused_insert_takes_no_lock(rt: HostRuntime) -> Result<(), Fail> {
+    let alloc = rt.alloc();
+    let mut core = machine_with_row(&rt, alloc)?;
+    assert_free(&rt, alloc, &mut core)
+}
+
+#[test]
+fn refuses_a_load_of_no_table(rt: HostRuntime) -> Result<(), Fail> {
+    let alloc = rt.alloc();
+    let mut loads = Loads::new(alloc);
+    loads.push(load_of(alloc, b"t", 1)?)?;
+    loads.push(load_of(alloc, b"u", 1)?)?;
+    let fault = fault_of(&rt, alloc, loads)?;
+    assert!(rt; matches!(fault, Some(MakeFault::NoTable { place: 2 })));
+    Ok(())
+}
+
+#[test]
+fn refuses_a_load_that_is_not_admitted(rt: HostRuntime) -> Result<(), Fail> {
+    let alloc = rt.alloc();
+    let mut loads = Loads::new(alloc);
+    let table = Name::new(alloc, b"t")?;
+    loads.push(Load {
+        table,
+        row: Row::new(alloc),
+    })?;
+    let fault = fault_of(&rt, alloc, loads)?;
+    assert!(rt;
+        matches!(
+            fault,
+            Some(MakeFault::BadRow {
+                place: 1,
+                bad: BadRow::Width
+            })
+        )
+    );
+    Ok(())
+}
+
+#[test]
+fn names_the_first_of_two_faulty_loads(rt: HostRuntime) -> Result<(), Fail> {
+    let alloc = rt.alloc();
+    let mut loads = Loads::new(alloc);
+    loads.push(load_of(alloc, b"t", 1)?)?;
+    loads.push(load_of(alloc, b"t", 1)?)?;
+    loads.push(load_of(alloc, b"u", 1)?)?;
+    let fault = fault_of(&rt, alloc, loads)?;
+    assert!(rt; matches!(fault, Some(MakeFault::RepeatedKey { place: 2 })));
+    Ok(())
+}
+
+#[test]
+fn names_a_crowded_table_before_a_faulty_load(rt: HostRuntime) -> Result<(), Fail> {
+    let alloc = rt.alloc();
+    let mut loads = Loads::new(alloc);
+    put_loads(alloc, &mut loads, one_too_many())?;
+    let fault = fault_of(&rt, alloc, loads)?;
+    assert!(rt; matches!(fault, Some(MakeFault::TooManyRows { .. })));
+    Ok(())
 }
 
 #[test]
@@ -33,21 +132,102 @@ fn splits_a_table(rt: HostRuntime) -> Result<(), Fail> {
 }
 
 #[test]
+fn a_lock_hinders_the_switch(rt: HostRuntime) -> Result<(), Fail> {
+    let alloc = rt.alloc();
+    let split = high_and_low(alloc)?;
+    let mut core = machine(&rt, alloc, &split)?;
+    assert_hindered(&rt, alloc, &mut core, split)
+}
+
+#[test]
 fn faults_are_copied(rt: HostRuntime) -> Result<(), Fail> {
     let alloc = rt.alloc();
-    assert!(rt; matches!(CoreFault::Full.copy(alloc)?, CoreFault::Full));
-    let repeated = MakeFault::RepeatedKey { place: 3 };
-    assert!(rt; matches!(repeated.copy(alloc)?, MakeFault::RepeatedKey { place: 3 }));
+    let full = CoreFault::Full.copy(alloc)?;
+    assert_eq!(rt; full, CoreFault::Full);
+    let repeated = MakeFault::RepeatedKey { place: 3 }.copy(alloc)?;
+    assert!(rt; matches!(repeated, MakeFault::RepeatedKey { place: 3 }));
     Ok(())
 }
 
-// What a client is answered.
-fn assert_answers(rt: &impl Abort, alloc: Global, core: &mut Core) -> Result<(), Fail> {
+// A client asks outside a transaction and in one.
+fn assert_answered(rt: &impl Abort, alloc: Global, core: &mut Core) -> Result<(), Fail> {
     assert_outside(rt, alloc, core)?;
     assert_written(rt, alloc, core)?;
     assert_missing(rt, alloc, core)?;
-    assert_bad(rt, alloc, core)?;
-    assert_ended(rt, alloc, core)
+    assert_bad(rt, alloc, core)
+}
+
+// Already, Done, Undone, Ending, Aborted and NoTxn in a row.
+fn assert_rolled_back(rt: &impl Abort, alloc: Global, core: &mut Core) -> Result<(), Fail> {
+    expect(rt, core, 1, Request::Begin, (Word::Begun, 1))?;
+    expect(rt, core, 1, Request::Begin, (Word::Already, 0))?;
+    expect(rt, core, 1, insert_of(alloc, b"t", 9, 9)?, (Word::Done, 1))?;
+    expect(rt, core, 1, Request::Undo, (Word::Undone, 2))?;
+    expect(rt, core, 1, read_of(alloc, 9)?, (Word::Ending, 0))?;
+    expect(rt, core, 1, Request::Undo, (Word::Aborted, 3))?;
+    expect(rt, core, 1, Request::Undo, (Word::NoTxn, 0))
+}
+
+// Of two readers the least hinders a writer, and then the other; two readers don't hinder each other.
+fn assert_least(rt: &impl Abort, alloc: Global, core: &mut Core) -> Result<(), Fail> {
+    begin(rt, core, 3, 2)?;
+    begin(rt, core, 2, 3)?;
+    begin(rt, core, 1, 4)?;
+    expect(rt, core, 2, read_of(alloc, 1)?, (Word::Row, 10))?;
+    expect(rt, core, 3, read_of(alloc, 1)?, (Word::Row, 10))?;
+    expect(rt, core, 1, update_of(alloc, 1, 11)?, (Word::Held, 2))?;
+    expect(rt, core, 3, Request::Commit, (Word::Committed, 3))?;
+    expect(rt, core, 1, update_of(alloc, 1, 11)?, (Word::Held, 3))
+}
+
+// A reader raises its lock where no other reads.
+fn assert_raised(rt: &impl Abort, alloc: Global, core: &mut Core) -> Result<(), Fail> {
+    begin(rt, core, 1, 2)?;
+    begin(rt, core, 2, 3)?;
+    expect(rt, core, 1, read_of(alloc, 1)?, (Word::Row, 10))?;
+    expect(rt, core, 2, read_of(alloc, 1)?, (Word::Row, 10))?;
+    expect(rt, core, 1, update_of(alloc, 1, 11)?, (Word::Held, 3))?;
+    expect(rt, core, 2, Request::Commit, (Word::Committed, 3))?;
+    expect(rt, core, 1, update_of(alloc, 1, 11)?, (Word::Done, 4))
+}
+
+// A row is taken out and another one put in its place, and both are undone.
+fn assert_both_undone(rt: &impl Abort, alloc: Global, core: &mut Core) -> Result<(), Fail> {
+    begin(rt, core, 1, 2)?;
+    expect(rt, core, 1, delete_of(alloc, 1)?, (Word::Done, 3))?;
+    expect(rt, core, 1, insert_of(alloc, b"t", 1, 30)?, (Word::Done, 4))?;
+    expect(rt, core, 1, Request::Undo, (Word::Undone, 5))?;
+    expect(rt, core, 1, Request::Undo, (Word::Undone, 6))?;
+    expect(rt, core, 1, Request::Undo, (Word::Aborted, 7))?;
+    begin(rt, core, 1, 3)?;
+    expect(rt, core, 1, read_of(alloc, 1)?, (Word::Row, 10))
+}
+
+// A client reads the row of another's write that was rolled back.
+fn assert_not_seen(rt: &impl Abort, alloc: Global, core: &mut Core) -> Result<(), Fail> {
+    begin(rt, core, 1, 2)?;
+    begin(rt, core, 2, 3)?;
+    expect(rt, core, 1, update_of(alloc, 1, 30)?, (Word::Done, 3))?;
+    expect(rt, core, 2, read_of(alloc, 1)?, (Word::Held, 2))?;
+    expect(rt, core, 1, Request::Undo, (Word::Undone, 4))?;
+    expect(rt, core, 1, Request::Undo, (Word::Aborted, 5))?;
+    expect(rt, core, 2, read_of(alloc, 1)?, (Word::Row, 10))
+}
+
+// A key that was refused to one client is another's.
+fn assert_free(rt: &impl Abort, alloc: Global, core: &mut Core) -> Result<(), Fail> {
+    begin(rt, core, 1, 2)?;
+    begin(rt, core, 2, 3)?;
+    expect(
+        rt,
+        core,
+        1,
+        insert_of(alloc, b"t", 1, 30)?,
+        (Word::Exists, 0),
+    )?;
+    expect(rt, core, 1, delete_of(alloc, 2)?, (Word::Missing, 0))?;
+    expect(rt, core, 2, update_of(alloc, 1, 20)?, (Word::Done, 3))?;
+    expect(rt, core, 2, read_of(alloc, 2)?, (Word::Absent, 0))
 }
 
 // Rows are written, and the table is split by turns of two rows.
@@ -56,7 +236,7 @@ fn assert_split(rt: &impl Abort, alloc: Global, core: &mut Core, split: Spec) ->
     requires fits { spec_fault core.old.opening.catalog split ≡ None }
 {
     write_rows(rt, alloc, core)?;
-    assert_started(rt, core, split)?;
+    assert_started(rt, core, split, 5)?;
     assert_turns(rt, core)?;
     assert_parts(rt, alloc, core)
 }
@@ -70,82 +250,90 @@ fn assert_turns(rt: &impl Abort, core: &mut Core) -> Result<(), Fail> {
 
 // A client without a transaction asks, and begins one.
 fn assert_outside(rt: &impl Abort, alloc: Global, core: &mut Core) -> Result<(), Fail> {
-    let heard = ask(rt, core, insert_of(alloc, b"t", 1, 10)?)?;
-    assert_eq!(rt; heard, (Word::NoTxn, 0));
-    let heard = ask(rt, core, Request::Begin)?;
-    assert_eq!(rt; heard, (Word::Begun, 1));
-    let heard = ask(rt, core, Request::Begin)?;
-    assert_eq!(rt; heard, (Word::Already, 0));
+    expect(
+        rt,
+        core,
+        8,
+        insert_of(alloc, b"t", 1, 10)?,
+        (Word::NoTxn, 0),
+    )?;
+    assert!(rt; !core.lives(8));
+    begin(rt, core, 8, 1)?;
+    assert!(rt; core.lives(8));
     Ok(())
 }
 
 // It inserts, updates and deletes.
 fn assert_written(rt: &impl Abort, alloc: Global, core: &mut Core) -> Result<(), Fail> {
-    let heard = ask(rt, core, insert_of(alloc, b"t", 1, 10)?)?;
-    assert_eq!(rt; heard, (Word::Done, 1));
-    let heard = ask(rt, core, update_of(alloc, 1, 12)?)?;
-    assert_eq!(rt; heard, (Word::Done, 2));
-    let heard = ask(rt, core, delete_of(alloc, 1)?)?;
-    assert_eq!(rt; heard, (Word::Done, 3));
-    Ok(())
+    expect(rt, core, 8, insert_of(alloc, b"t", 1, 10)?, (Word::Done, 1))?;
+    expect(rt, core, 8, update_of(alloc, 1, 12)?, (Word::Done, 2))?;
+    expect(rt, core, 8, delete_of(alloc, 1)?, (Word::Done, 3))
 }
 
 // It asks for a row that isn't there.
 fn assert_missing(rt: &impl Abort, alloc: Global, core: &mut Core) -> Result<(), Fail> {
-    let heard = ask(rt, core, update_of(alloc, 1, 13)?)?;
-    assert_eq!(rt; heard, (Word::Missing, 0));
-    let heard = ask(rt, core, delete_of(alloc, 1)?)?;
-    assert_eq!(rt; heard, (Word::Missing, 0));
-    Ok(())
+    expect(rt, core, 8, update_of(alloc, 1, 13)?, (Word::Missing, 0))?;
+    expect(rt, core, 8, delete_of(alloc, 1)?, (Word::Missing, 0))?;
+    expect(rt, core, 8, read_of(alloc, 1)?, (Word::Absent, 0))
 }
 
 // It asks for a row of no table, and for a row that the table doesn't admit.
 fn assert_bad(rt: &impl Abort, alloc: Global, core: &mut Core) -> Result<(), Fail> {
-    let heard = ask(rt, core, insert_of(alloc, b"u", 1, 10)?)?;
-    assert_eq!(rt; heard, (Word::NoTable, 0));
+    expect(
+        rt,
+        core,
+        8,
+        insert_of(alloc, b"u", 1, 10)?,
+        (Word::NoTable, 0),
+    )?;
     let table = Name::new(alloc, b"t")?;
     let row = Row::new(alloc);
-    let heard = ask(rt, core, Request::Insert { table, row })?;
-    assert_eq!(rt; heard, (Word::BadRow, 0));
-    Ok(())
-}
-
-// It puts a row in twice, and ends its transaction.
-fn assert_ended(rt: &impl Abort, alloc: Global, core: &mut Core) -> Result<(), Fail> {
-    let heard = ask(rt, core, insert_of(alloc, b"t", 1, 10)?)?;
-    assert_eq!(rt; heard, (Word::Done, 4));
-    let heard = ask(rt, core, insert_of(alloc, b"t", 1, 11)?)?;
-    assert_eq!(rt; heard, (Word::Exists, 0));
-    let heard = ask(rt, core, Request::Commit)?;
-    assert_eq!(rt; heard, (Word::Committed, 5));
-    Ok(())
+    expect(
+        rt,
+        core,
+        8,
+        Request::Insert { table, row },
+        (Word::BadRow, 0),
+    )
 }
 
 /// A reply in a word.
 #[derive(Clone, Copy, Debug, PartialEq, Eq)]
 enum Word {
     Begun,
+    Row,
+    Absent,
     Done,
     Committed,
+    Undone,
+    Aborted,
     NoTxn,
     Already,
+    Ending,
     NoTable,
     BadRow,
+    Held,
     Exists,
     Missing,
     Other,
 }
 
-// A reply in a word, and the number that it gives, or 0.
+// A reply in a word, and the number that it gives, or 0; of a row, its second value.
 fn heard(reply: &Reply) -> (Word, u64) {
     match reply {
         Reply::Begun { txn } => (Word::Begun, *txn),
+        Reply::Row { row } => (Word::Row, second_of(row)),
+        Reply::Absent => (Word::Absent, 0),
         Reply::Done { lsn } => (Word::Done, *lsn),
         Reply::Committed { lsn } => (Word::Committed, *lsn),
+        Reply::Undone { lsn } => (Word::Undone, *lsn),
+        Reply::Aborted { lsn } => (Word::Aborted, *lsn),
         Reply::NoTxn => (Word::NoTxn, 0),
         Reply::Already => (Word::Already, 0),
+        Reply::Ending => (Word::Ending, 0),
         Reply::NoTable => (Word::NoTable, 0),
         Reply::BadRow { .. } => (Word::BadRow, 0),
+        Reply::Held { by } => (Word::Held, *by),
         Reply::Exists => (Word::Exists, 0),
         Reply::Missing => (Word::Missing, 0),
         _ => (Word::Other, 0),
@@ -156,40 +344,91 @@ fn heard(reply: &Reply) -> (Word, u64) {
 fn write_rows(rt: &impl Abort, alloc: Global, core: &mut Core) -> Result<(), Fail>
     ensures { core.new.opening ≡ core.old.opening }
 {
-    ask(rt, core, Request::Begin)?;
-    ask(rt, core, insert_of(alloc, b"t", 1, 5)?)?;
-    ask(rt, core, insert_of(alloc, b"t", 2, 20)?)?;
-    ask(rt, core, insert_of(alloc, b"t", 3, 7)?)?;
-    ask(rt, core, Request::Commit)?;
-    Ok(())
+    begin(rt, core, 1, 1)?;
+    expect(rt, core, 1, insert_of(alloc, b"t", 1, 5)?, (Word::Done, 1))?;
+    expect(rt, core, 1, insert_of(alloc, b"t", 2, 20)?, (Word::Done, 2))?;
+    expect(rt, core, 1, insert_of(alloc, b"t", 3, 7)?, (Word::Done, 3))?;
+    expect(rt, core, 1, Request::Commit, (Word::Committed, 4))
 }
 
-// Client 1 asks, before a transformation has started.
-fn ask(rt: &impl Abort, core: &mut Core, request: Request) -> Result<(Word, u64), Fail>
-    requires { IsBuilt request }
+// A client asks, before a transformation has started.
+fn ask(rt: &impl Abort, core: &mut Core, actor: u8, request: Request) -> Result<(Word, u64), Fail>
+    requires from_one { 1 ≤ actor }
+    requires to_eight { actor ≤ 8 }
     ensures { core.new.opening ≡ core.old.opening }
 {
     assert!(rt; is_idle(core));
-    assert!(rt; has_room(core));
-    let reply = core.client(1, request)?;
+    counted::<Brand>(core, actor, request, Blank::new(1))
+}
+
+// The same, on a counter that nobody reads.
+fn counted<L: Ledger>(
+    core: &mut Core,
+    actor: u8,
+    request: Request,
+    blank: Blank,
+) -> Result<(Word, u64), Fail>
+    requires from_one { 1 ≤ actor }
+    requires to_eight { actor ≤ 8 }
+    requires idle { phase core.old.past ≡ Idle }
+    requires name { blank.name ≡ L.name }
+    requires parts { blank.parts ≡ L.parts }
+    requires some { 0 < blank.parts }
+    ensures { core.new.opening ≡ core.old.opening }
+{
+    let mut steps = Steps::<L>::new(blank);
+    let reply = core.client(actor, request, &mut steps)?;
     Ok(heard(&reply))
 }
 
-fn assert_started(rt: &impl Abort, core: &mut Core, spec: Spec) -> Result<(), Fail>
+// A client asks and hears this.
+fn expect(
+    rt: &impl Abort,
+    core: &mut Core,
+    actor: u8,
+    request: Request,
+    wanted: (Word, u64),
+) -> Result<(), Fail>
+    requires from_one { 1 ≤ actor }
+    requires to_eight { actor ≤ 8 }
+    ensures { core.new.opening ≡ core.old.opening }
+{
+    let heard = ask(rt, core, actor, request)?;
+    assert_eq!(rt; heard, wanted);
+    Ok(())
+}
+
+// A client begins a transaction of this number.
+fn begin(rt: &impl Abort, core: &mut Core, actor: u8, txn: u64) -> Result<(), Fail>
+    requires from_one { 1 ≤ actor }
+    requires to_eight { actor ≤ 8 }
+    ensures { core.new.opening ≡ core.old.opening }
+{
+    expect(rt, core, actor, Request::Begin, (Word::Begun, txn))
+}
+
+// The second value of a row, if it's a number from 0, or 0.
+fn second_of(row: &Row) -> u64 {
+    match row.as_slice() {
+        [_, Value::Int(v)] if *v >= 0 => *v as u64,
+        _ => 0,
+    }
+}
+
+// A transformation starts, and its mark is this.
+fn assert_started(rt: &impl Abort, core: &mut Core, spec: Spec, mark: u64) -> Result<(), Fail>
     requires shaped { IsShaped spec }
     requires fits { spec_fault core.old.opening.catalog spec ≡ None }
 {
     assert!(rt; is_idle(core));
-    assert!(rt; has_room(core));
     let reply = core.start(spec, Strategy::Blocking)?;
-    assert!(rt; matches!(reply, Reply::Started { lsn: 5 }));
+    assert!(rt; matches!(reply, Reply::Started { lsn } if lsn == mark));
     Ok(())
 }
 
 // A scan turn of two rows sees these.
 fn assert_scan(rt: &impl Abort, core: &mut Core, wanted: &[u64], over: bool) -> Result<(), Fail> {
     assert!(rt; is_scanning(core));
-    assert!(rt; has_room(core));
     match core.scan(2)? {
         Reply::Scanned { side, lsns, last } => {
             assert_eq!(rt; side, 0);
@@ -201,9 +440,39 @@ fn assert_scan(rt: &impl Abort, core: &mut Core, wanted: &[u64], over: bool) -> 
     }
 }
 
+// A live transaction with a lock on the source hinders the switch, the least of two.
+fn assert_hindered(rt: &impl Abort, alloc: Global, core: &mut Core, split: Spec) -> Result<(), Fail>
+    requires shaped { IsShaped split }
+    requires fits { spec_fault core.old.opening.catalog split ≡ None }
+{
+    read_rows(rt, alloc, core)?;
+    assert_started(rt, core, split, 1)?;
+    assert_scan(rt, core, &[], true)?;
+    assert_conflict(rt, core, 2)
+}
+
+// The switch waits for the end of this transaction.
+fn assert_conflict(rt: &impl Abort, core: &mut Core, least: u64) -> Result<(), Fail> {
+    assert!(rt; is_chasing(core));
+    let reply = core.switch()?;
+    assert!(rt; matches!(reply, Reply::Conflict { txn } if txn == least));
+    assert_eq!(rt; core.phase(), Phase::Draining);
+    Ok(())
+}
+
+// Three clients begin, and all but the first read.
+fn read_rows(rt: &impl Abort, alloc: Global, core: &mut Core) -> Result<(), Fail>
+    ensures { core.new.opening ≡ core.old.opening }
+{
+    begin(rt, core, 1, 1)?;
+    begin(rt, core, 2, 2)?;
+    begin(rt, core, 3, 3)?;
+    expect(rt, core, 3, read_of(alloc, 2)?, (Word::Absent, 0))?;
+    expect(rt, core, 2, read_of(alloc, 1)?, (Word::Absent, 0))
+}
+
 fn assert_switched(rt: &impl Abort, core: &mut Core) -> Result<(), Fail> {
     assert!(rt; is_chasing(core));
-    assert!(rt; has_room(core));
     let reply = core.switch()?;
     assert!(rt; matches!(reply, Reply::Switched { lsn: 6 }));
     assert_eq!(rt; core.phase(), Phase::Done);
@@ -252,17 +521,49 @@ fn is_chasing(core: &Core) -> bool
     matches!(core.phase(), Phase::Chasing)
 }
 
-// Whether another turn may be taken.
-fn has_room(core: &Core) -> bool
-    ensures { IsTrue result → length core.now.past < 40000 }
-{
-    core.journal().len() < 40000
-}
-
 // The machine with the table t.
 fn machine_of(rt: &impl Abort, alloc: Global) -> Result<Core, Fail> {
     let split = high_and_low(alloc)?;
     machine(rt, alloc, &split)
+}
+
+// The machine with the table t, in which transaction 1 has put the row 1, 10.
+fn machine_with_row(rt: &impl Abort, alloc: Global) -> Result<Core, Fail> {
+    let mut core = machine_of(rt, alloc)?;
+    put_row(rt, alloc, &mut core)?;
+    Ok(core)
+}
+
+fn put_row(rt: &impl Abort, alloc: Global, core: &mut Core) -> Result<(), Fail> {
+    begin(rt, core, 1, 1)?;
+    expect(rt, core, 1, insert_of(alloc, b"t", 1, 10)?, (Word::Done, 1))?;
+    expect(rt, core, 1, Request::Commit, (Word::Committed, 2))
+}
+
+// Why no machine is made of the table t and these rows, if none is.
+fn fault_of(rt: &impl Abort, alloc: Global, loads: Loads) -> Result<Option<MakeFault>, Fail> {
+    Ok(Core::make(alloc, catalog(rt, alloc)?, loads).err())
+}
+
+// More rows than may be loaded into a table.
+fn one_too_many() -> u64 {
+    100_001
+}
+
+// So many rows of the table t.
+fn put_loads(alloc: Global, loads: &mut Loads, count: u64) -> Result<(), Fail> {
+    for _load in 0..count {
+        loads.push(load_of(alloc, b"t", 1)?)?;
+    }
+    Ok(())
+}
+
+// The row of this number in a table.
+fn load_of(alloc: Global, table: &[u8], id: i64) -> Result<Load, Fail> {
+    Ok(Load {
+        table: Name::new(alloc, table)?,
+        row: row_of(alloc, id, 0)?,
+    })
 }
 
 // The machine with the table t, which this transformation fits.
@@ -329,27 +630,28 @@ fn are_short(columns: &[Column]) -> bool
         .all(|column| column.name.as_bytes().len() <= 30)
 }
 
-fn insert_of(alloc: Global, table: &[u8], id: i64, v: i64) -> Result<Request, Fail>
-    ensures { IfOk result IsBuilt }
-{
+fn insert_of(alloc: Global, table: &[u8], id: i64, v: i64) -> Result<Request, Fail> {
     Ok(Request::Insert {
         table: Name::new(alloc, table)?,
         row: row_of(alloc, id, v)?,
     })
 }
 
-fn update_of(alloc: Global, id: i64, v: i64) -> Result<Request, Fail>
-    ensures { IfOk result IsBuilt }
-{
+fn read_of(alloc: Global, id: i64) -> Result<Request, Fail> {
+    Ok(Request::Read {
+        table: Name::new(alloc, b"t")?,
+        key: key_of(alloc, id)?,
+    })
+}
+
+fn update_of(alloc: Global, id: i64, v: i64) -> Result<Request, Fail> {
     Ok(Request::Update {
         table: Name::new(alloc, b"t")?,
         row: row_of(alloc, id, v)?,
     })
 }
 
-fn delete_of(alloc: Global, id: i64) -> Result<Request, Fail>
-    ensures { IfOk result IsBuilt }
-{
+fn delete_of(alloc: Global, id: i64) -> Result<Request, Fail> {
     Ok(Request::Delete {
         table: Name::new(alloc, b"t")?,
         key: key_of(alloc, id)?,

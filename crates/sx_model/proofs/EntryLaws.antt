@@ -1,14 +1,16 @@
 -- What one more entry leaves, by what it does.
 use Rattle.std.proofs.Common.{◌≡◌, ◌≤◌, ◌+◌, ◌++◌, ℕ, Bool, List, [], ◌∷◌, length, Option, Some, None, ap, ◌∙◌, arith, unwrap_or}
 use Rattle.std.specs.Option.{option_to_list}
+use Rattle.sx_lists.specs.Places.{numbered}
 use Rattle.sx_log.specs.declared.record.Rec.{Rec}
-use Rattle.sx_log.specs.declared.record.Body.TheVariants.{Commit, Mark, Switch}
+use Rattle.sx_log.specs.declared.record.Body.TheVariants.{Commit, Abort, Mark, Switch}
+use Rattle.sx_log.specs.Undoing.{undo_at, undo_last, undo_record}
 use Rattle.sx_journal.specs.declared.entry.Entry.{Entry}
-use Rattle.sx_model.specs.Effects.{Effect, Nothing, Begins, Writes, Commits, Starts, Sees, Conflicts, Switches, effect}
+use Rattle.sx_model.specs.Effects.{Effect, Nothing, Reads, Begins, Writes, Undoes, Commits, Aborts, Starts, Sees, Conflicts, Switches, effect}
 use Rattle.sx_model.specs.Openings.{Opening}
 use Rattle.sx_model.specs.Leaves.{living_after, living, txn_of}
 use Rattle.sx_model.specs.Logs.{log_of, next_lsn, write_record, event_record, effect_record, entry_record}
-use Rattle.sx_model.proofs.Outcomes.{Written, Committed}
+use Rattle.sx_model.proofs.Outcomes.{Written, Committed, Undone, Aborted}
 
 -- the log behind an entry with this effect
 abbrev pub log_after : Opening → List Entry → Entry → Effect → List Rec
@@ -24,27 +26,41 @@ living_by past e f told = ap (λ g. living_after e.actor g (living past)) told
 pub log-quiet : (o : Opening) (past : List Entry) (e : Entry) → effect e.reply ≡ Nothing → log_of o (e ∷ past) ≡ log_of o past
 log-quiet o past e told = log_by o past e Nothing told
 
+pub log-read : (o : Opening) (past : List Entry) (e : Entry) → effect e.reply ≡ Reads → log_of o (e ∷ past) ≡ log_of o past
+log-read o past e told = log_by o past e Reads told
+
 pub log-begun : (o : Opening) (past : List Entry) (e : Entry) (txn : ℕ) → effect e.reply ≡ Begins txn → log_of o (e ∷ past) ≡ log_of o past
 log-begun o past e txn told = log_by o past e (Begins txn) told
 
 pub log-conflict : (o : Opening) (past : List Entry) (e : Entry) → effect e.reply ≡ Conflicts → log_of o (e ∷ past) ≡ log_of o past
 log-conflict o past e told = log_by o past e Conflicts told
 
--- the transaction of an entry whose client is 1
-txn_here : (past : List Entry) (e : Entry) (txn : ℕ) → e.actor ≡ 1 → txn_of past 1 ≡ Some txn → unwrap_or (txn_of past e.actor) 0 ≡ txn
-txn_here past e txn client inside = ap (λ n. unwrap_or (txn_of past n) 0) client ∙ ap (λ t. unwrap_or t 0) inside
+-- the transaction of an entry whose client is in one
+txn_here : (past : List Entry) (e : Entry) (txn : ℕ) → txn_of past e.actor ≡ Some txn → unwrap_or (txn_of past e.actor) 0 ≡ txn
+txn_here past e txn inside = ap (λ t. unwrap_or t 0) inside
 
 -- and behind those that make one
 pub log-written : (o : Opening) (past : List Entry) (e : Entry) (w : Written o past e) → log_of o (e ∷ past) ≡ write_record (log_of o past) w.txn w.table w.key w.after ∷ log_of o past
 log-written o past e w =
     log_by o past e Writes w.told
-    ∙ (ap (λ t. option_to_list (event_record o.catalog (log_of o past) t e.event) ++ log_of o past) (txn_here past e w.txn w.client w.inside)
+    ∙ (ap (λ t. option_to_list (event_record o.catalog (log_of o past) t e.event) ++ log_of o past) (txn_here past e w.txn w.inside)
     ∙ ap (λ r. option_to_list r ++ log_of o past) w.made)
 
 pub log-committed : (o : Opening) (past : List Entry) (e : Entry) (c : Committed o past e) → log_of o (e ∷ past) ≡ record { txn = c.txn; body = Commit } ∷ log_of o past
 log-committed o past e c =
     log_by o past e Commits c.told
-    ∙ ap (λ t. record { txn = t; body = Commit } ∷ log_of o past) (txn_here past e c.txn c.client c.inside)
+    ∙ ap (λ t. record { txn = t; body = Commit } ∷ log_of o past) (txn_here past e c.txn c.inside)
+
+pub log-undone : (o : Opening) (past : List Entry) (e : Entry) (u : Undone o past e) → log_of o (e ∷ past) ≡ option_to_list (undo_at (log_of o past) u.txn u.lsn (numbered (log_of o past) u.lsn)) ++ log_of o past
+log-undone o past e u =
+    log_by o past e Undoes u.told
+    ∙ (ap (λ t. option_to_list (undo_record (log_of o past) t) ++ log_of o past) (txn_here past e u.txn u.inside)
+    ∙ ap (λ left. option_to_list (undo_last (log_of o past) u.txn left) ++ log_of o past) u.left)
+
+pub log-aborted : (o : Opening) (past : List Entry) (e : Entry) (a : Aborted o past e) → log_of o (e ∷ past) ≡ record { txn = a.txn; body = Abort } ∷ log_of o past
+log-aborted o past e a =
+    log_by o past e Aborts a.told
+    ∙ ap (λ t. record { txn = t; body = Abort } ∷ log_of o past) (txn_here past e a.txn a.inside)
 
 pub log-started : (o : Opening) (past : List Entry) (e : Entry) (mark : ℕ) → effect e.reply ≡ Starts mark → log_of o (e ∷ past) ≡ record { txn = 0; body = Mark } ∷ log_of o past
 log-started o past e mark told = log_by o past e (Starts mark) told

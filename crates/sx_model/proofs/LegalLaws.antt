@@ -1,5 +1,5 @@
--- Legal journals: who lives, and how far a transformation has come.
-use Rattle.std.proofs.Common.{◌≡◌, ◌≤◌, ◌+◌, ◌⊎◌, ◌↔◌, ℕ, suc, Bool, true, false, List, [], ◌∷◌, length, Option, Some, None, refl, sym, ap, ap₂, ◌∙◌, subst, inl, inr, arith, if◌then◌else◌}
+-- Legal journals: how far a transformation has come.
+use Rattle.std.proofs.Common.{◌≡◌, ◌≤◌, ◌+◌, ◌⊎◌, ◌↔◌, ℕ, suc, Bool, true, false, List, [], ◌∷◌, length, Option, Some, None, refl, sym, ap, subst, inl, inr, arith, if◌then◌else◌}
 use Rattle.sx_values.specs.declared.catalog.Declared.{Declared}
 use Rattle.sx_ops.specs.Checks.{IsShaped, spec_fault}
 use Rattle.sx_sync.specs.declared.Strategy.TheVariants.{Blocking}
@@ -8,39 +8,12 @@ use Rattle.sx_sync.specs.declared.Phase.TheVariants.{Idle, Scanning, Chasing, Dr
 use Rattle.sx_journal.specs.declared.entry.Entry.{Entry}
 use Rattle.sx_model.specs.Effects.{Effect, Nothing, Reads, Begins, Writes, Undoes, Commits, Aborts, Starts, Sees, Fetches, Checks, Conflicts, Violates, Switches, Cancels, effect}
 use Rattle.sx_model.specs.Openings.{Opening}
-use Rattle.sx_model.specs.Leaves.{Living, living, without, txn_among, begun, Started, started, started_as, started_by, drains, phase, phase_after}
+use Rattle.sx_model.specs.Leaves.{begun, Started, started, started_as, started_by, drains, phase, phase_after}
 use Rattle.sx_model.specs.Logs.{log_of, next_lsn}
 use Rattle.sx_model.specs.Switches.{position, position_after}
 use Rattle.sx_model.specs.Legal.{Legal}
-use Rattle.sx_model.proofs.Outcomes.{Starting, Outcome, rests, begins, writes, commits, starts, sees, conflicts, switches, outcome}
-use Rattle.sx_model.proofs.EntryLaws.{log_after, living_by}
-
--- nobody, or client 1 alone
-abbrev pub IsAlone : List Living → Type 0
-IsAlone living = (living ≡ []) ⊎ ((txn : ℕ) × (living ≡ record { client = 1; txn = txn } ∷ []))
-
-none_outside : (xs : List Living) → IsAlone xs → txn_among xs 1 ≡ None → xs ≡ []
-none_outside xs (inl e) outside = e
-none_outside xs (inr l) outside = let found : txn_among xs 1 ≡ Some l.0 = ap (λ ys. txn_among ys 1) l.1 in absurd (cc)
-
-ended : (xs : List Living) → IsAlone xs → without 1 xs ≡ []
-ended xs (inl e) = ap (without 1) e
-ended xs (inr l) = ap (without 1) l.1
-
-alone_after : (o : Opening) (past : List Entry) (e : Entry) → IsAlone (living past) → Outcome o past e → IsAlone (living (e ∷ past))
-alone_after o past e alone (rests told) = subst IsAlone (sym (living_by past e Nothing told)) alone
-alone_after o past e alone (begins b) = inr (begun past + 1, living_by past e (Begins (begun past + 1)) b.told ∙ ap₂ (λ n xs. record { client = n; txn = begun past + 1 } ∷ xs) b.client (none_outside (living past) alone b.outside))
-alone_after o past e alone (writes w) = subst IsAlone (sym (living_by past e Writes w.told)) alone
-alone_after o past e alone (commits c) = inl (living_by past e Commits c.told ∙ (ap (λ n. without n (living past)) c.client ∙ ended (living past) alone))
-alone_after o past e alone (starts s) = subst IsAlone (sym (living_by past e (Starts (next_lsn o past)) s.told)) alone
-alone_after o past e alone (sees s) = subst IsAlone (sym (living_by past e (Sees s.lsns s.last) s.told)) alone
-alone_after o past e alone (conflicts a told) = subst IsAlone (sym (living_by past e Conflicts told)) alone
-alone_after o past e alone (switches a told) = subst IsAlone (sym (living_by past e Switches told)) alone
-
--- in a legal journal nobody lives, or client 1 alone
-pub legal_living : (o : Opening) (past : List Entry) → Legal o past → IsAlone (living past)
-legal_living o [] l = inl refl
-legal_living o (e ∷ past) l = alone_after o past e (legal_living o past l.0) (outcome o past e l.1)
+use Rattle.sx_model.proofs.Outcomes.{Starting, Outcome, rests, begins, reads, writes, commits, undoes, aborts, starts, sees, conflicts, switches, outcome}
+use Rattle.sx_model.proofs.EntryLaws.{log_after}
 
 -- the phase is never Late
 late_after : (s : Option Started) (f : Effect) (at : Phase) → (at ≡ Late → ⊥) → phase_after s f at ≡ Late → ⊥
@@ -172,8 +145,11 @@ switched_far catalog at is position end busy (under_way u) = under_way (record {
 far_after : (o : Opening) (past : List Entry) (e : Entry) → HowFar o past → Outcome o past e → HowFar o (e ∷ past)
 far_after o past e far (rests told) = far_by o past e Nothing told far
 far_after o past e far (begins b) = far_by o past e (Begins (begun past + 1)) b.told far
-far_after o past e far (writes w) = far_by o past e Writes w.told (still_before o past (position o past) (length (log_after o past e Writes)) w.idle far)
-far_after o past e far (commits c) = far_by o past e Commits c.told (still_before o past (position o past) (length (log_after o past e Commits)) c.idle far)
+far_after o past e far (writes w) = far_by o past e Writes w.told (still_before o past (position o past) (length (log_after o past e Writes)) w.client.idle far)
+far_after o past e far (reads r) = far_by o past e Reads r.told far
+far_after o past e far (undoes u) = far_by o past e Undoes u.told (still_before o past (position o past) (length (log_after o past e Undoes)) u.client.idle far)
+far_after o past e far (aborts a) = far_by o past e Aborts a.told (still_before o past (position o past) (length (log_after o past e Aborts)) a.client.idle far)
+far_after o past e far (commits c) = far_by o past e Commits c.told (still_before o past (position o past) (length (log_after o past e Commits)) c.client.idle far)
 far_after o past e far (starts s) = far_by o past e (Starts (next_lsn o past)) s.told (now_under_way o past e s)
 far_after o past e far (sees s) = far_by o past e (Sees s.lsns s.last) s.told (seen_far o past s.last s.turn.scanning far)
 far_after o past e far (conflicts a told) = far_by o past e Conflicts told (drain_far o past (drains (started past)) (scanned_busy (phase past) a.scanned) (scanned_undone (phase past) a.scanned) far)
@@ -182,7 +158,7 @@ far_after o past e far (switches a told) = far_by o past e Switches told (switch
 -- in a legal journal nothing was started exactly while the phase is Idle, and what was started is as it must be
 pub legal_progress : (o : Opening) (past : List Entry) → Legal o past → HowFar o past
 legal_progress o [] l = before refl refl
-legal_progress o (e ∷ past) l = far_after o past e (legal_progress o past l.0) (outcome o past e l.1)
+legal_progress o (e ∷ past) l = far_after o past e (legal_progress o past l.0) (outcome o past e l)
 
 idle_of : (catalog : List Declared) (at : Phase) (is : Option Started) (position end : ℕ) → Progress catalog at is position end → is ≡ None → at ≡ Idle
 idle_of catalog at is position end (before idle none) e = idle

@@ -1,10 +1,14 @@
 -- What a legal entry does, behind the entries before it.
-use Rattle.std.proofs.Common.{◌≡◌, ◌+◌, ◌-◌, ◌⊎◌, nat_lt, length, if◌then◌else◌, ℕ, Bool, true, false, List, Option, Some, None, refl, sym, ap, ◌∙◌, subst, inl, inr}
+use Rattle.std.proofs.Common.{◌≡◌, ◌≤◌, ◌+◌, ◌-◌, ◌⊎◌, nat_lt, length, if◌then◌else◌, ℕ, Bool, true, false, List, [], ◌∷◌, Option, Some, None, refl, sym, ap, ◌∙◌, subst, inl, inr}
 use Rattle.sx_values.specs.declared.value.Value.{Value}
 use Rattle.sx_values.specs.declared.schema.BadRow.{BadRow}
 use Rattle.sx_values.specs.Layouts.{Layout, row_fault, key_fault, key_of}
 use Rattle.sx_values.specs.Catalogs.{schema_of}
+use Rattle.sx_log.specs.State.{is_place}
+use Rattle.sx_log.specs.Undoing.{writes_left}
+use Rattle.sx_locks.specs.declared.mode.Mode.TheVariants.{Shared, Exclusive}
 use Rattle.sx_ops.specs.declared.spec.Spec.{Spec}
+use Rattle.sx_ops.specs.declared.spec.Spec.TheVariants.{Join, Split, Part, Union}
 use Rattle.sx_ops.specs.declared.spec.SpecFault.{SpecFault}
 use Rattle.sx_ops.specs.Checks.{IsShaped, spec_fault}
 use Rattle.sx_sync.specs.declared.Strategy.{Strategy}
@@ -18,41 +22,87 @@ use Rattle.sx_journal.specs.declared.entry.Request.{Request}
 use Rattle.sx_journal.specs.declared.entry.Request.TheVariants as request
 use Rattle.sx_journal.specs.declared.entry.Reply.{Reply}
 use Rattle.sx_journal.specs.declared.entry.Reply.TheVariants as reply
-use Rattle.sx_model.specs.Effects.{Nothing, Begins, Writes, Commits, Starts, Sees, Conflicts, Switches, effect}
-use Rattle.sx_model.specs.Openings.{Opening, key_in}
-use Rattle.sx_model.specs.Leaves.{Started, started, txn_of, begun, phase}
+use Rattle.sx_model.specs.Effects.{Effect, Nothing, Reads, Begins, Writes, Undoes, Commits, Aborts, Starts, Sees, Fetches, Checks, Conflicts, Violates, Switches, Cancels, effect}
+use Rattle.sx_model.specs.Openings.{Opening, key_under, key_in}
+use Rattle.sx_model.specs.Leaves.{Started, started, started_as, started_by, txn_of, begun, phase}
 use Rattle.sx_model.specs.Logs.{log_of, next_lsn, row_now, write_record, request_record, event_record}
-use Rattle.sx_model.specs.Replies.{unless_bad, insert_answer, change_answer, insert_reply, update_reply, delete_reply, reply_outside, reply_inside, reply_in, client_reply, start_answer, start_in}
+use Rattle.sx_model.specs.Held.{asks_for_key, is_for_key, is_ending, holder}
+use Rattle.sx_model.specs.Replies.{unless_bad, unless_held, read_answer, insert_answer, change_answer, read_reply, insert_reply, update_reply, delete_reply, undo_answer, reply_outside, reply_inside, reply_ending, reply_in, start_answer, start_in}
 use Rattle.sx_model.specs.Scans.{IsScanTurn}
-use Rattle.sx_model.specs.Switches.{switch_unless, attempt_reply, switch_in, conflict, position}
-use Rattle.sx_model.specs.Legal.{AllowsClient, AllowsStart, ScanAnswer, Allows, IsLegalEntry}
+use Rattle.sx_model.specs.Switches.{violation, unless_violated, unless_hindered, attempt_reply, switch_in, conflict, position}
+use Rattle.sx_model.specs.Legal.{AllowsClient, AllowsStart, ScanAnswer, Allows, Legal}
+
+-- an entry of a client, while no transformation has started
+pub record ByClient (past : List Entry) (actor : ℕ) : Type 0 where
+  pub from_one : 1 ≤ actor
+  pub to_eight : actor ≤ 8
+  pub idle : phase past ≡ Idle
 
 -- the client begins a transaction
 pub record Begun (o : Opening) (past : List Entry) (e : Entry) : Type 0 where
-  pub client : e.actor ≡ 1
-  pub idle : phase past ≡ Idle
-  pub outside : txn_of past 1 ≡ None
+  pub client : ByClient past e.actor
+  pub outside : txn_of past e.actor ≡ None
   pub told : effect e.reply ≡ Begins (begun past + 1)
 
--- it writes a row
-pub record Written (o : Opening) (past : List Entry) (e : Entry) : Type 0 where
-  pub client : e.actor ≡ 1
-  pub idle : phase past ≡ Idle
+-- it reads a key: no other live transaction writes it
+pub record Read (o : Opening) (past : List Entry) (e : Entry) : Type 0 where
+  pub client : ByClient past e.actor
   pub txn : ℕ
-  pub inside : txn_of past 1 ≡ Some txn
+  pub inside : txn_of past e.actor ≡ Some txn
+  pub going_on : is_ending past txn ≡ false
+  pub told : effect e.reply ≡ Reads
+  pub table : List ℕ
+  pub key : List Value
+  pub asked : e.event ≡ event.Client (request.Read table key)
+  pub free : holder o.catalog past txn table key Shared ≡ None
+  pub shows : e.reply ≡ read_answer (row_now o past table key)
+
+-- what a write may find and leave: it adds a row, puts a row in the place of another, or takes one away
+pub data Change (before after : Option (List Value)) : Type 0 where
+  inserts : (row : List Value) → before ≡ None → after ≡ Some row → Change before after
+  updates : (old row : List Value) → before ≡ Some old → after ≡ Some row → Change before after
+  deletes : (old : List Value) → before ≡ Some old → after ≡ None → Change before after
+
+-- it writes a key: no other live transaction reads or writes it
+pub record Written (o : Opening) (past : List Entry) (e : Entry) : Type 0 where
+  pub client : ByClient past e.actor
+  pub txn : ℕ
+  pub inside : txn_of past e.actor ≡ Some txn
+  pub going_on : is_ending past txn ≡ false
   pub told : effect e.reply ≡ Writes
   pub table : List ℕ
   pub key : List Value
   pub after : Option (List Value)
+  pub asks : (other : List ℕ) (at : List Value) → is_for_key o.catalog e.event other at ≡ is_place table key other at
+  pub free : holder o.catalog past txn table key Exclusive ≡ None
+  pub change : Change (row_now o past table key) after
   pub made : event_record o.catalog (log_of o past) txn e.event ≡ Some (write_record (log_of o past) txn table key after)
 
 -- it commits
 pub record Committed (o : Opening) (past : List Entry) (e : Entry) : Type 0 where
-  pub client : e.actor ≡ 1
-  pub idle : phase past ≡ Idle
+  pub client : ByClient past e.actor
   pub txn : ℕ
-  pub inside : txn_of past 1 ≡ Some txn
+  pub inside : txn_of past e.actor ≡ Some txn
+  pub going_on : is_ending past txn ≡ false
   pub told : effect e.reply ≡ Commits
+
+-- it undoes the last of its writes that are left
+pub record Undone (o : Opening) (past : List Entry) (e : Entry) : Type 0 where
+  pub client : ByClient past e.actor
+  pub txn : ℕ
+  pub inside : txn_of past e.actor ≡ Some txn
+  pub told : effect e.reply ≡ Undoes
+  pub lsn : ℕ
+  pub rest : List ℕ
+  pub left : writes_left txn (log_of o past) ≡ lsn ∷ rest
+
+-- it ends its transaction, with no write left to undo
+pub record Aborted (o : Opening) (past : List Entry) (e : Entry) : Type 0 where
+  pub client : ByClient past e.actor
+  pub txn : ℕ
+  pub inside : txn_of past e.actor ≡ Some txn
+  pub told : effect e.reply ≡ Aborts
+  pub left : writes_left txn (log_of o past) ≡ []
 
 -- a transformation that fits the catalog starts
 pub record Starting (o : Opening) (past : List Entry) (e : Entry) : Type 0 where
@@ -82,108 +132,208 @@ pub record Attempting (o : Opening) (past : List Entry) : Type 0 where
 pub data Outcome (o : Opening) (past : List Entry) (e : Entry) : Type 0 where
   rests : effect e.reply ≡ Nothing → Outcome o past e
   begins : Begun o past e → Outcome o past e
+  reads : Read o past e → Outcome o past e
   writes : Written o past e → Outcome o past e
   commits : Committed o past e → Outcome o past e
+  undoes : Undone o past e → Outcome o past e
+  aborts : Aborted o past e → Outcome o past e
   starts : Starting o past e → Outcome o past e
   sees : Seeing o past e → Outcome o past e
   conflicts : Attempting o past → effect e.reply ≡ Conflicts → Outcome o past e
   switches : Attempting o past → effect e.reply ≡ Switches → Outcome o past e
 
+-- a client's entry
+abbrev asks : ℕ → Request → Reply → Entry
+asks actor asked answer = record { actor = actor; event = event.Client asked; reply = answer }
+
+-- the outcome of a reply that changes nothing
+quiet_outcome : (o : Opening) (past : List Entry) (e : Entry) (shown : Reply) → e.reply ≡ shown → effect shown ≡ Nothing → Outcome o past e
+quiet_outcome o past e shown same quiet = rests (ap effect same ∙ quiet)
+
+-- the answer to a read tells nothing, or what the key has
+data ReadOr (by : Option ℕ) (row : Option (List Value)) (answer : Reply) : Type 0 where
+  refused : effect answer ≡ Nothing → ReadOr by row answer
+  shown : by ≡ None → answer ≡ read_answer row → ReadOr by row answer
+
+read_past : (bad : Option BadRow) (by : Option ℕ) (row : Option (List Value)) → ReadOr by row (unless_bad bad (unless_held by (read_answer row)))
+unfolding effect
+read_past (Some bad) by row = refused refl
+read_past None (Some txn) row = refused refl
+read_past None None row = shown refl refl
+
+read_or : (o : Opening) (past : List Entry) (txn : ℕ) (table : List ℕ) (layout : Option Layout) (key : List Value) → ReadOr (holder o.catalog past txn table key Shared) (row_now o past table key) (read_reply o past txn table layout key)
+unfolding effect
+read_or o past txn table None key = refused refl
+read_or o past txn table (Some layout) key = read_past (key_fault layout key) (holder o.catalog past txn table key Shared) (row_now o past table key)
+
+reads_row : (row : Option (List Value)) → effect (read_answer row) ≡ Reads
+unfolding effect
+reads_row (Some row) = refl
+reads_row None = refl
+
 -- the answer to a write changes nothing, or says that a row was written
-unless_bad-writing : (bad : Option BadRow) (answer : Reply) → (effect answer ≡ Nothing) ⊎ (effect answer ≡ Writes) → (effect (unless_bad bad answer) ≡ Nothing) ⊎ (effect (unless_bad bad answer) ≡ Writes)
+data WriteOr (by : Option ℕ) (before after : Option (List Value)) (answer : Reply) : Type 0 where
+  refused : effect answer ≡ Nothing → WriteOr by before after answer
+  written : by ≡ None → Change before after → effect answer ≡ Writes → WriteOr by before after answer
+
+insert_past : (o : Opening) (past : List Entry) (bad : Option BadRow) (by : Option ℕ) (before : Option (List Value)) (row : List Value) → WriteOr by before (Some row) (unless_bad bad (unless_held by (insert_answer o past before)))
 unfolding effect
-unless_bad-writing (Some bad) answer w = inl refl
-unless_bad-writing None answer w = w
+insert_past o past (Some bad) by before row = refused refl
+insert_past o past None (Some txn) before row = refused refl
+insert_past o past None None (Some old) row = refused refl
+insert_past o past None None None row = written refl (inserts row refl refl) refl
 
-insert_answer-writing : (o : Opening) (past : List Entry) (row : Option (List Value)) → (effect (insert_answer o past row) ≡ Nothing) ⊎ (effect (insert_answer o past row) ≡ Writes)
+update_past : (o : Opening) (past : List Entry) (bad : Option BadRow) (by : Option ℕ) (before : Option (List Value)) (row : List Value) → WriteOr by before (Some row) (unless_bad bad (unless_held by (change_answer o past before)))
 unfolding effect
-insert_answer-writing o past (Some row) = inl refl
-insert_answer-writing o past None = inr refl
+update_past o past (Some bad) by before row = refused refl
+update_past o past None (Some txn) before row = refused refl
+update_past o past None None None row = refused refl
+update_past o past None None (Some old) row = written refl (updates old row refl refl) refl
 
-change_answer-writing : (o : Opening) (past : List Entry) (row : Option (List Value)) → (effect (change_answer o past row) ≡ Nothing) ⊎ (effect (change_answer o past row) ≡ Writes)
+delete_past : (o : Opening) (past : List Entry) (bad : Option BadRow) (by : Option ℕ) (before : Option (List Value)) → WriteOr by before None (unless_bad bad (unless_held by (change_answer o past before)))
 unfolding effect
-change_answer-writing o past (Some row) = inr refl
-change_answer-writing o past None = inl refl
+delete_past o past (Some bad) by before = refused refl
+delete_past o past None (Some txn) before = refused refl
+delete_past o past None None None = refused refl
+delete_past o past None None (Some old) = written refl (deletes old refl refl) refl
 
-insert-writing : (o : Opening) (past : List Entry) (table : List ℕ) (layout : Option Layout) (row : List Value) → (effect (insert_reply o past table layout row) ≡ Nothing) ⊎ (effect (insert_reply o past table layout row) ≡ Writes)
+-- the same of an answer about a key
+abbrev WriteAt : Opening → List Entry → ℕ → List ℕ → List Value → Option (List Value) → Reply → Type 0
+WriteAt o past txn table key after answer = WriteOr (holder o.catalog past txn table key Exclusive) (row_now o past table key) after answer
+
+insert_or : (o : Opening) (past : List Entry) (txn : ℕ) (table : List ℕ) (layout : Option Layout) (row : List Value) → WriteAt o past txn table (key_under layout row) (Some row) (insert_reply o past txn table layout row)
 unfolding effect
-insert-writing o past table None row = inl refl
-insert-writing o past table (Some layout) row = unless_bad-writing (row_fault layout row) (insert_answer o past (row_now o past table (key_of layout row))) (insert_answer-writing o past (row_now o past table (key_of layout row)))
+insert_or o past txn table None row = refused refl
+insert_or o past txn table (Some layout) row = insert_past o past (row_fault layout row) (holder o.catalog past txn table (key_of layout row) Exclusive) (row_now o past table (key_of layout row)) row
 
-update-writing : (o : Opening) (past : List Entry) (table : List ℕ) (layout : Option Layout) (row : List Value) → (effect (update_reply o past table layout row) ≡ Nothing) ⊎ (effect (update_reply o past table layout row) ≡ Writes)
+update_or : (o : Opening) (past : List Entry) (txn : ℕ) (table : List ℕ) (layout : Option Layout) (row : List Value) → WriteAt o past txn table (key_under layout row) (Some row) (update_reply o past txn table layout row)
 unfolding effect
-update-writing o past table None row = inl refl
-update-writing o past table (Some layout) row = unless_bad-writing (row_fault layout row) (change_answer o past (row_now o past table (key_of layout row))) (change_answer-writing o past (row_now o past table (key_of layout row)))
+update_or o past txn table None row = refused refl
+update_or o past txn table (Some layout) row = update_past o past (row_fault layout row) (holder o.catalog past txn table (key_of layout row) Exclusive) (row_now o past table (key_of layout row)) row
 
-delete-writing : (o : Opening) (past : List Entry) (table : List ℕ) (layout : Option Layout) (key : List Value) → (effect (delete_reply o past table layout key) ≡ Nothing) ⊎ (effect (delete_reply o past table layout key) ≡ Writes)
+delete_or : (o : Opening) (past : List Entry) (txn : ℕ) (table : List ℕ) (layout : Option Layout) (key : List Value) → WriteAt o past txn table key None (delete_reply o past txn table layout key)
 unfolding effect
-delete-writing o past table None key = inl refl
-delete-writing o past table (Some layout) key = unless_bad-writing (key_fault layout key) (change_answer o past (row_now o past table key)) (change_answer-writing o past (row_now o past table key))
+delete_or o past txn table None key = refused refl
+delete_or o past txn table (Some layout) key = delete_past o past (key_fault layout key) (holder o.catalog past txn table key Exclusive) (row_now o past table key)
 
-some_tells : {T : Type 0} (x y : T) → Some x ≡ Some y → x ≡ y
-some_tells x y e = cc
-
--- the outcome of a reply that may say that a row was written
-write_outcome : (o : Opening) (past : List Entry) (asked : Request) (answer shown : Reply) (txn : ℕ) (table : List ℕ) (key : List Value) (after : Option (List Value)) → phase past ≡ Idle → txn_of past 1 ≡ Some txn → Some shown ≡ Some answer → request_record o.catalog (log_of o past) txn asked ≡ Some (write_record (log_of o past) txn table key after) → (effect shown ≡ Nothing) ⊎ (effect shown ≡ Writes) → Outcome o past (record { actor = 1; event = event.Client asked; reply = answer })
-unfolding event_record
-write_outcome o past asked answer shown txn table key after idle inside e made (inl quiet) = rests (ap effect (sym (some_tells shown answer e)) ∙ quiet)
-write_outcome o past asked answer shown txn table key after idle inside e made (inr told) = writes (record {
-  client = refl;
-  idle = idle;
+-- the outcome of a read in a transaction
+read_outcome : (o : Opening) (past : List Entry) (actor : ℕ) (answer shown_reply : Reply) (txn : ℕ) (table : List ℕ) (key : List Value) → ByClient past actor → txn_of past actor ≡ Some txn → is_ending past txn ≡ false → answer ≡ shown_reply → ReadOr (holder o.catalog past txn table key Shared) (row_now o past table key) shown_reply → Outcome o past (asks actor (request.Read table key) answer)
+read_outcome o past actor answer said txn table key client inside going e (refused quiet) = rests (ap effect e ∙ quiet)
+read_outcome o past actor answer said txn table key client inside going e (shown free same) = reads (record {
+  client = client;
   txn = txn;
   inside = inside;
-  told = ap effect (sym (some_tells shown answer e)) ∙ told;
+  going_on = going;
+  told = ap effect (e ∙ same) ∙ reads_row (row_now o past table key);
+  table = table;
+  key = key;
+  asked = refl;
+  free = free;
+  shows = e ∙ same;
+})
+
+-- what a request that may write asks for: the lock on a key, and the record
+record AsksWrite (o : Opening) (past : List Entry) (txn : ℕ) (asked : Request) (table : List ℕ) (key : List Value) (after : Option (List Value)) : Type 0 where
+  asks_key : (other : List ℕ) (at : List Value) → is_for_key o.catalog (event.Client asked) other at ≡ is_place table key other at
+  makes : event_record o.catalog (log_of o past) txn (event.Client asked) ≡ Some (write_record (log_of o past) txn table key after)
+
+-- the outcome of a request that may write
+write_outcome : (o : Opening) (past : List Entry) (actor : ℕ) (asked : Request) (answer said : Reply) (txn : ℕ) (table : List ℕ) (key : List Value) (after : Option (List Value)) → ByClient past actor → txn_of past actor ≡ Some txn → is_ending past txn ≡ false → answer ≡ said → AsksWrite o past txn asked table key after → WriteAt o past txn table key after said → Outcome o past (asks actor asked answer)
+write_outcome o past actor asked answer said txn table key after client inside going e a (refused quiet) = rests (ap effect e ∙ quiet)
+write_outcome o past actor asked answer said txn table key after client inside going e a (written free change told) = writes (record {
+  client = client;
+  txn = txn;
+  inside = inside;
+  going_on = going;
+  told = ap effect e ∙ told;
   table = table;
   key = key;
   after = after;
-  made = made;
+  asks = a.asks_key;
+  free = free;
+  change = change;
+  made = a.makes;
 })
 
--- the outcome of a reply that changes nothing
-quiet_outcome : (o : Opening) (past : List Entry) (e : Entry) (shown : Reply) → Some shown ≡ Some e.reply → effect shown ≡ Nothing → Outcome o past e
-quiet_outcome o past e shown same quiet = rests (ap effect (sym (some_tells shown e.reply same)) ∙ quiet)
-
-outside_outcome : (o : Opening) (past : List Entry) (asked : Request) (answer : Reply) → phase past ≡ Idle → txn_of past 1 ≡ None → Some (reply_outside past asked) ≡ Some answer → Outcome o past (record { actor = 1; event = event.Client asked; reply = answer })
-unfolding reply_outside effect
-outside_outcome o past request.Begin answer idle outside e = begins (record {
-  client = refl;
-  idle = idle;
-  outside = outside;
-  told = ap effect (sym (some_tells (reply.Begun (begun past + 1)) answer e));
-})
-outside_outcome o past (request.Read table key) answer idle outside e = quiet_outcome o past (record { actor = 1; event = event.Client (request.Read table key); reply = answer }) reply.NoTxn e refl
-outside_outcome o past (request.Insert table row) answer idle outside e = quiet_outcome o past (record { actor = 1; event = event.Client (request.Insert table row); reply = answer }) reply.NoTxn e refl
-outside_outcome o past (request.Update table row) answer idle outside e = quiet_outcome o past (record { actor = 1; event = event.Client (request.Update table row); reply = answer }) reply.NoTxn e refl
-outside_outcome o past (request.Delete table key) answer idle outside e = quiet_outcome o past (record { actor = 1; event = event.Client (request.Delete table key); reply = answer }) reply.NoTxn e refl
-outside_outcome o past request.Commit answer idle outside e = quiet_outcome o past (record { actor = 1; event = event.Client request.Commit; reply = answer }) reply.NoTxn e refl
-outside_outcome o past request.Undo answer idle outside e = quiet_outcome o past (record { actor = 1; event = event.Client request.Undo; reply = answer }) reply.NoTxn e refl
-
-inside_outcome : (o : Opening) (past : List Entry) (asked : Request) (answer : Reply) (txn : ℕ) → phase past ≡ Idle → txn_of past 1 ≡ Some txn → reply_inside o past asked ≡ Some answer → Outcome o past (record { actor = 1; event = event.Client asked; reply = answer })
-unfolding reply_inside effect request_record
-inside_outcome o past request.Begin answer txn idle inside e = quiet_outcome o past (record { actor = 1; event = event.Client request.Begin; reply = answer }) reply.Already e refl
-inside_outcome o past (request.Insert table row) answer txn idle inside e =
-    write_outcome o past (request.Insert table row) answer (insert_reply o past table (schema_of o.catalog table) row) txn table (key_in o.catalog table row) (Some row) idle inside e refl (insert-writing o past table (schema_of o.catalog table) row)
-inside_outcome o past (request.Update table row) answer txn idle inside e =
-    write_outcome o past (request.Update table row) answer (update_reply o past table (schema_of o.catalog table) row) txn table (key_in o.catalog table row) (Some row) idle inside e refl (update-writing o past table (schema_of o.catalog table) row)
-inside_outcome o past (request.Delete table key) answer txn idle inside e =
-    write_outcome o past (request.Delete table key) answer (delete_reply o past table (schema_of o.catalog table) key) txn table key None idle inside e refl (delete-writing o past table (schema_of o.catalog table) key)
-inside_outcome o past request.Commit answer txn idle inside e = commits (record {
-  client = refl;
-  idle = idle;
+-- an undo undoes a write that is left, or ends the transaction
+undo_outcome : (o : Opening) (past : List Entry) (actor : ℕ) (answer : Reply) (txn : ℕ) (left : List ℕ) → ByClient past actor → txn_of past actor ≡ Some txn → writes_left txn (log_of o past) ≡ left → answer ≡ undo_answer o past left → Outcome o past (asks actor request.Undo answer)
+unfolding effect
+undo_outcome o past actor answer txn (lsn ∷ rest) client inside is e = undoes (record {
+  client = client;
   txn = txn;
   inside = inside;
-  told = ap effect (sym (some_tells (reply.Committed (next_lsn o past)) answer e));
+  told = ap effect e;
+  lsn = lsn;
+  rest = rest;
+  left = is;
 })
-inside_outcome o past (request.Read table key) answer txn idle inside e = absurd (cc)
-inside_outcome o past request.Undo answer txn idle inside e = absurd (cc)
+undo_outcome o past actor answer txn [] client inside is e = aborts (record {
+  client = client;
+  txn = txn;
+  inside = inside;
+  told = ap effect e;
+  left = is;
+})
 
-txn_outcome : (o : Opening) (past : List Entry) (asked : Request) (answer : Reply) (txn : Option ℕ) → phase past ≡ Idle → txn_of past 1 ≡ txn → reply_in o past txn asked ≡ Some answer → Outcome o past (record { actor = 1; event = event.Client asked; reply = answer })
-txn_outcome o past asked answer None idle is e = outside_outcome o past asked answer idle is e
-txn_outcome o past asked answer (Some txn) idle is e = inside_outcome o past asked answer txn idle is e
+-- the outcome of a request without a transaction
+outside_outcome : (o : Opening) (past : List Entry) (actor : ℕ) (asked : Request) (answer : Reply) → ByClient past actor → txn_of past actor ≡ None → answer ≡ reply_outside past asked → Outcome o past (asks actor asked answer)
+unfolding reply_outside effect
+outside_outcome o past actor request.Begin answer client outside e = begins (record { client = client; outside = outside; told = ap effect e })
+outside_outcome o past actor (request.Read table key) answer client outside e = rests (ap effect e)
+outside_outcome o past actor (request.Insert table row) answer client outside e = rests (ap effect e)
+outside_outcome o past actor (request.Update table row) answer client outside e = rests (ap effect e)
+outside_outcome o past actor (request.Delete table key) answer client outside e = rests (ap effect e)
+outside_outcome o past actor request.Commit answer client outside e = rests (ap effect e)
+outside_outcome o past actor request.Undo answer client outside e = rests (ap effect e)
 
-client_outcome : (o : Opening) (past : List Entry) (actor : ℕ) (asked : Request) (answer : Reply) → AllowsClient o past actor asked answer → Outcome o past (record { actor = actor; event = event.Client asked; reply = answer })
-client_outcome o past actor asked answer a =
-    subst (λ n. Outcome o past (record { actor = n; event = event.Client asked; reply = answer })) (sym a.client) (txn_outcome o past asked answer (txn_of past 1) a.idle refl (subst (λ n. client_reply o past n asked ≡ Some answer) a.client a.answered))
+insert_asks : (o : Opening) (past : List Entry) (txn : ℕ) (table : List ℕ) (row : List Value) → AsksWrite o past txn (request.Insert table row) table (key_in o.catalog table row) (Some row)
+unfolding asks_for_key is_for_key request_record event_record
+insert_asks o past txn table row = record { asks_key = λ other at. refl; makes = refl }
+
+update_asks : (o : Opening) (past : List Entry) (txn : ℕ) (table : List ℕ) (row : List Value) → AsksWrite o past txn (request.Update table row) table (key_in o.catalog table row) (Some row)
+unfolding asks_for_key is_for_key request_record event_record
+update_asks o past txn table row = record { asks_key = λ other at. refl; makes = refl }
+
+delete_asks : (o : Opening) (past : List Entry) (txn : ℕ) (table : List ℕ) (key : List Value) → AsksWrite o past txn (request.Delete table key) table key None
+unfolding asks_for_key is_for_key request_record event_record
+delete_asks o past txn table key = record { asks_key = λ other at. refl; makes = refl }
+
+-- the outcome of a request in a transaction that isn't ending
+inside_outcome : (o : Opening) (past : List Entry) (actor : ℕ) (asked : Request) (answer : Reply) (txn : ℕ) → ByClient past actor → txn_of past actor ≡ Some txn → is_ending past txn ≡ false → answer ≡ reply_inside o past txn asked → Outcome o past (asks actor asked answer)
+unfolding reply_inside effect
+inside_outcome o past actor request.Begin answer txn client inside going e = rests (ap effect e)
+inside_outcome o past actor (request.Read table key) answer txn client inside going e =
+    read_outcome o past actor answer (read_reply o past txn table (schema_of o.catalog table) key) txn table key client inside going e (read_or o past txn table (schema_of o.catalog table) key)
+inside_outcome o past actor (request.Insert table row) answer txn client inside going e =
+    write_outcome o past actor (request.Insert table row) answer (insert_reply o past txn table (schema_of o.catalog table) row) txn table (key_in o.catalog table row) (Some row) client inside going e (insert_asks o past txn table row) (insert_or o past txn table (schema_of o.catalog table) row)
+inside_outcome o past actor (request.Update table row) answer txn client inside going e =
+    write_outcome o past actor (request.Update table row) answer (update_reply o past txn table (schema_of o.catalog table) row) txn table (key_in o.catalog table row) (Some row) client inside going e (update_asks o past txn table row) (update_or o past txn table (schema_of o.catalog table) row)
+inside_outcome o past actor (request.Delete table key) answer txn client inside going e =
+    write_outcome o past actor (request.Delete table key) answer (delete_reply o past txn table (schema_of o.catalog table) key) txn table key None client inside going e (delete_asks o past txn table key) (delete_or o past txn table (schema_of o.catalog table) key)
+inside_outcome o past actor request.Commit answer txn client inside going e = commits (record { client = client; txn = txn; inside = inside; going_on = going; told = ap effect e })
+inside_outcome o past actor request.Undo answer txn client inside going e = undo_outcome o past actor answer txn (writes_left txn (log_of o past)) client inside refl e
+
+-- the outcome of a request in a transaction that is ending
+ending_outcome : (o : Opening) (past : List Entry) (actor : ℕ) (asked : Request) (answer : Reply) (txn : ℕ) → ByClient past actor → txn_of past actor ≡ Some txn → answer ≡ reply_ending o past txn asked → Outcome o past (asks actor asked answer)
+unfolding reply_ending effect
+ending_outcome o past actor request.Begin answer txn client inside e = rests (ap effect e)
+ending_outcome o past actor (request.Read table key) answer txn client inside e = rests (ap effect e)
+ending_outcome o past actor (request.Insert table row) answer txn client inside e = rests (ap effect e)
+ending_outcome o past actor (request.Update table row) answer txn client inside e = rests (ap effect e)
+ending_outcome o past actor (request.Delete table key) answer txn client inside e = rests (ap effect e)
+ending_outcome o past actor request.Commit answer txn client inside e = rests (ap effect e)
+ending_outcome o past actor request.Undo answer txn client inside e = undo_outcome o past actor answer txn (writes_left txn (log_of o past)) client inside refl e
+
+in_outcome : (o : Opening) (past : List Entry) (actor : ℕ) (asked : Request) (answer : Reply) (txn : ℕ) (ending : Bool) → ByClient past actor → txn_of past actor ≡ Some txn → is_ending past txn ≡ ending → answer ≡ (if ending then reply_ending o past txn asked else reply_inside o past txn asked) → Outcome o past (asks actor asked answer)
+in_outcome o past actor asked answer txn true client inside is e = ending_outcome o past actor asked answer txn client inside e
+in_outcome o past actor asked answer txn false client inside is e = inside_outcome o past actor asked answer txn client inside is e
+
+txn_outcome : (o : Opening) (past : List Entry) (actor : ℕ) (asked : Request) (answer : Reply) (txn : Option ℕ) → ByClient past actor → txn_of past actor ≡ txn → answer ≡ reply_in o past txn asked → Outcome o past (asks actor asked answer)
+txn_outcome o past actor asked answer None client is e = outside_outcome o past actor asked answer client is e
+txn_outcome o past actor asked answer (Some txn) client is e = in_outcome o past actor asked answer txn (is_ending past txn) client is refl e
+
+client_outcome : (o : Opening) (past : List Entry) (actor : ℕ) (asked : Request) (answer : Reply) → AllowsClient o past actor asked answer → Outcome o past (asks actor asked answer)
+client_outcome o past actor asked answer a = txn_outcome o past actor asked answer (txn_of past actor) (record { from_one = a.from_one; to_eight = a.to_eight; idle = a.idle }) refl a.answered
 
 -- a start where no transformation has started
 fault_outcome : (o : Opening) (past : List Entry) (spec : Spec) (answer : Reply) (fault : Option SpecFault) → phase past ≡ Idle → IsShaped spec → spec_fault o.catalog spec ≡ fault → answer ≡ start_answer o past fault → Outcome o past (record { actor = 0; event = event.Start spec Blocking; reply = answer })
@@ -220,41 +370,87 @@ scan_outcome o past actor n reply.NoTransform a = rests refl
 scan_outcome o past actor n reply.ScanOver a = rests refl
 scan_outcome o past actor n other a = absurd a
 
+-- a horizontal split can't be violated
+pub no_violation : (o : Opening) (past : List Entry) (spec : Spec) → IsShaped spec → violation o past spec ≡ None
+no_violation o past (Part table tests passing failing) shaped = refl
+no_violation o past (Join left right on_left on_right into) shaped = absurd shaped
+no_violation o past (Split table by dep rest dependent) shaped = absurd shaped
+no_violation o past (Union left right into) shaped = absurd shaped
+
 -- an attempt to switch
-attempted : (o : Opening) (past : List Entry) (e : Entry) (s : Started) (least : Option ℕ) → started past ≡ Some s → (phase past ≡ Chasing) ⊎ (phase past ≡ Draining) → e.reply ≡ switch_unless o past least → Outcome o past e
+attempted : (o : Opening) (past : List Entry) (e : Entry) (s : Started) (least : Option ℕ) (keys : Option (List Value × List Value)) → started past ≡ Some s → (phase past ≡ Chasing) ⊎ (phase past ≡ Draining) → keys ≡ None → e.reply ≡ unless_hindered least (unless_violated keys (reply.Switched (next_lsn o past))) → Outcome o past e
 unfolding effect
-attempted o past e s (Some txn) is scanned told = conflicts (record { s = s; is = is; scanned = scanned }) (ap effect told)
-attempted o past e s None is scanned told = switches (record { s = s; is = is; scanned = scanned }) (ap effect told)
+attempted o past e s (Some txn) keys is scanned agree told = conflicts (record { s = s; is = is; scanned = scanned }) (ap effect told)
+attempted o past e s None None is scanned agree told = switches (record { s = s; is = is; scanned = scanned }) (ap effect told)
+attempted o past e s None (Some both) is scanned agree told = absurd (cc)
 
-tail_outcome : (o : Opening) (past : List Entry) (e : Entry) (s : Started) (long : Bool) → started past ≡ Some s → (phase past ≡ Chasing) ⊎ (phase past ≡ Draining) → e.reply ≡ (if long then reply.Unread (position o past) (length (log_of o past)) else switch_unless o past (conflict o past s)) → Outcome o past e
+tail_outcome : (o : Opening) (past : List Entry) (e : Entry) (s : Started) (long : Bool) → started past ≡ Some s → IsShaped s.spec → (phase past ≡ Chasing) ⊎ (phase past ≡ Draining) → e.reply ≡ (if long then reply.Unread (position o past) (length (log_of o past)) else unless_hindered (conflict o past s) (unless_violated (violation o past s.spec) (reply.Switched (next_lsn o past)))) → Outcome o past e
 unfolding effect
-tail_outcome o past e s true is scanned told = rests (ap effect told)
-tail_outcome o past e s false is scanned told = attempted o past e s (conflict o past s) is scanned told
+tail_outcome o past e s true is shaped scanned told = rests (ap effect told)
+tail_outcome o past e s false is shaped scanned told = attempted o past e s (conflict o past s) (violation o past s.spec) is scanned (no_violation o past s.spec shaped) told
 
-attempt_outcome : (o : Opening) (past : List Entry) (e : Entry) (s : Option Started) → started past ≡ s → (phase past ≡ Chasing) ⊎ (phase past ≡ Draining) → e.reply ≡ attempt_reply o past s → Outcome o past e
+-- what was started is shaped as the engine can take it
+abbrev pub AreShaped : List Entry → Type 0
+AreShaped past = (s : Started) → started past ≡ Some s → IsShaped s.spec
+
+attempt_outcome : (o : Opening) (past : List Entry) (e : Entry) (s : Option Started) → AreShaped past → started past ≡ s → (phase past ≡ Chasing) ⊎ (phase past ≡ Draining) → e.reply ≡ attempt_reply o past s → Outcome o past e
 unfolding effect
-attempt_outcome o past e None is scanned told = rests (ap effect told)
-attempt_outcome o past e (Some s) is scanned told = tail_outcome o past e s (nat_lt 256 (length (log_of o past) - position o past)) is scanned told
+attempt_outcome o past e None shaped is scanned told = rests (ap effect told)
+attempt_outcome o past e (Some s) shaped is scanned told = tail_outcome o past e s (nat_lt 256 (length (log_of o past) - position o past)) is (shaped s is) scanned told
 
-switch_outcome : (o : Opening) (past : List Entry) (e : Entry) (at : Phase) → phase past ≡ at → e.reply ≡ switch_in o past at → Outcome o past e
+switch_outcome : (o : Opening) (past : List Entry) (e : Entry) (at : Phase) → AreShaped past → phase past ≡ at → e.reply ≡ switch_in o past at → Outcome o past e
 unfolding effect
-switch_outcome o past e Idle is told = rests (ap effect told)
-switch_outcome o past e Scanning is told = rests (ap effect told)
-switch_outcome o past e Chasing is told = attempt_outcome o past e (started past) refl (inl is) told
-switch_outcome o past e Draining is told = attempt_outcome o past e (started past) refl (inr is) told
-switch_outcome o past e Late is told = rests (ap effect told)
-switch_outcome o past e Done is told = rests (ap effect told)
+switch_outcome o past e Idle shaped is told = rests (ap effect told)
+switch_outcome o past e Scanning shaped is told = rests (ap effect told)
+switch_outcome o past e Chasing shaped is told = attempt_outcome o past e (started past) shaped refl (inl is) told
+switch_outcome o past e Draining shaped is told = attempt_outcome o past e (started past) shaped refl (inr is) told
+switch_outcome o past e Late shaped is told = rests (ap effect told)
+switch_outcome o past e Done shaped is told = rests (ap effect told)
 
-allowed_outcome : (o : Opening) (past : List Entry) (actor : ℕ) (asked : Event) (answer : Reply) → Allows o past actor asked answer → Outcome o past (record { actor = actor; event = asked; reply = answer })
+allowed_outcome : (o : Opening) (past : List Entry) (actor : ℕ) (asked : Event) (answer : Reply) → AreShaped past → Allows o past actor asked answer → Outcome o past (record { actor = actor; event = asked; reply = answer })
 unfolding Allows
-allowed_outcome o past actor (event.Client asked) answer a = client_outcome o past actor asked answer a
-allowed_outcome o past actor (event.Start spec strategy) answer a = start_outcome o past actor spec strategy answer a
-allowed_outcome o past actor (event.Scan n) answer a = scan_outcome o past actor n answer a.answered
-allowed_outcome o past actor event.Switch answer a = switch_outcome o past (record { actor = actor; event = event.Switch; reply = answer }) (phase past) refl a.answered
-allowed_outcome o past actor (event.Fetch n) answer a = absurd a
-allowed_outcome o past actor (event.Check group) answer a = absurd a
-allowed_outcome o past actor event.Cancel answer a = absurd a
+allowed_outcome o past actor (event.Client asked) answer shaped a = client_outcome o past actor asked answer a
+allowed_outcome o past actor (event.Start spec strategy) answer shaped a = start_outcome o past actor spec strategy answer a
+allowed_outcome o past actor (event.Scan n) answer shaped a = scan_outcome o past actor n answer a.answered
+allowed_outcome o past actor event.Switch answer shaped a = switch_outcome o past (record { actor = actor; event = event.Switch; reply = answer }) (phase past) shaped refl a.answered
+allowed_outcome o past actor (event.Fetch n) answer shaped a = absurd a
+allowed_outcome o past actor (event.Check group) answer shaped a = absurd a
+allowed_outcome o past actor event.Cancel answer shaped a = absurd a
 
--- what a legal entry does
-pub outcome : (o : Opening) (past : List Entry) (e : Entry) → IsLegalEntry o past e → Outcome o past e
-outcome o past e l = allowed_outcome o past e.actor e.event e.reply l.allowed
+-- each transformation that a legal journal started is a horizontal split
+start_shaped : (o : Opening) (past : List Entry) (actor : ℕ) (asked : Event) (answer : Reply) (mark : ℕ) (s : Started) → AreShaped past → Allows o past actor asked answer → started_as asked mark (started past) ≡ Some s → IsShaped s.spec
+unfolding Allows
+start_shaped o past actor (event.Start spec strategy) answer mark s shaped a is =
+    let same : record { spec = spec; strategy = strategy; mark = mark } ≡ s = cc in
+    subst (λ (t : Started). IsShaped t.spec) same a.shaped
+start_shaped o past actor (event.Client asked) answer mark s shaped a is = shaped s is
+start_shaped o past actor (event.Scan n) answer mark s shaped a is = shaped s is
+start_shaped o past actor event.Switch answer mark s shaped a is = shaped s is
+start_shaped o past actor (event.Fetch n) answer mark s shaped a is = shaped s is
+start_shaped o past actor (event.Check group) answer mark s shaped a is = shaped s is
+start_shaped o past actor event.Cancel answer mark s shaped a is = shaped s is
+
+effect_shaped : (o : Opening) (past : List Entry) (actor : ℕ) (asked : Event) (answer : Reply) (f : Effect) (s : Started) → AreShaped past → Allows o past actor asked answer → started_by asked f (started past) ≡ Some s → IsShaped s.spec
+effect_shaped o past actor asked answer (Starts mark) s shaped a is = start_shaped o past actor asked answer mark s shaped a is
+effect_shaped o past actor asked answer Nothing s shaped a is = shaped s is
+effect_shaped o past actor asked answer Reads s shaped a is = shaped s is
+effect_shaped o past actor asked answer (Begins txn) s shaped a is = shaped s is
+effect_shaped o past actor asked answer Writes s shaped a is = shaped s is
+effect_shaped o past actor asked answer Undoes s shaped a is = shaped s is
+effect_shaped o past actor asked answer Commits s shaped a is = shaped s is
+effect_shaped o past actor asked answer Aborts s shaped a is = shaped s is
+effect_shaped o past actor asked answer (Sees lsns last) s shaped a is = shaped s is
+effect_shaped o past actor asked answer (Fetches place) s shaped a is = shaped s is
+effect_shaped o past actor asked answer Checks s shaped a is = shaped s is
+effect_shaped o past actor asked answer Conflicts s shaped a is = shaped s is
+effect_shaped o past actor asked answer Violates s shaped a is = shaped s is
+effect_shaped o past actor asked answer Switches s shaped a is = shaped s is
+effect_shaped o past actor asked answer Cancels s shaped a is = shaped s is
+
+pub legal_shaped : (o : Opening) (past : List Entry) → Legal o past → AreShaped past
+legal_shaped o [] l s is = absurd (cc)
+legal_shaped o (e ∷ past) l s is = effect_shaped o past e.actor e.event e.reply (effect e.reply) s (legal_shaped o past l.0) l.1.allowed is
+
+-- what the last entry of a legal journal does
+pub outcome : (o : Opening) (past : List Entry) (e : Entry) → Legal o (e ∷ past) → Outcome o past e
+outcome o past e l = allowed_outcome o past e.actor e.event e.reply (legal_shaped o past l.0) l.1.allowed

@@ -82,7 +82,7 @@ unfolding after_body
 state_at-written txn written at before after log table key d e =
     chosen (is_place written at table key) (stored (length log + 1) after) (state_at log table key) (and_both (same_name written table) (values_eq at key) d e)
 
-values_eq-refl : (key : List Value) → values_eq key key ≡ true
+pub values_eq-refl : (key : List Value) → values_eq key key ≡ true
 values_eq-refl key = rw (values_cmp-refl key) refl
 
 -- so it sets its own key

@@ -11,18 +11,18 @@ use Rattle.sx_journal.specs.declared.entry.Event.TheVariants as event
 use Rattle.sx_journal.specs.declared.entry.Request.{Request}
 use Rattle.sx_journal.specs.declared.entry.Reply.{Reply}
 use Rattle.sx_journal.specs.declared.entry.Reply.TheVariants as reply
-use Rattle.std.specs.Prelude.{Some}
 use Rattle.sx_model.specs.Openings.{Opening}
 use Rattle.sx_model.specs.Leaves.{living, phase}
 use Rattle.sx_model.specs.Replies.{client_reply, start_reply}
 use Rattle.sx_model.specs.Scans.{IsScanTurn}
 use Rattle.sx_model.specs.Switches.{switch_reply}
 
--- a client's request and its answer; until locks come, there is one client, and it works before a transformation starts
+-- a client's request and its answer; until propagation comes, clients work before a transformation starts
 pub record AllowsClient (o : Opening) (past : List Entry) (actor : ℕ) (asked : Request) (answer : Reply) : Type 0 where
-  pub client : actor ≡ 1
+  pub from_one : 1 ≤ actor
+  pub to_eight : actor ≤ 8
   pub idle : phase past ≡ Idle
-  pub answered : client_reply o past actor asked ≡ Some answer
+  pub answered : answer ≡ client_reply o past actor asked
 
 -- a start and its answer; until the other strategies and operators come, it is a horizontal split under blocking commit
 pub record AllowsStart (o : Opening) (past : List Entry) (actor : ℕ) (spec : Spec) (strategy : Strategy) (answer : Reply) : Type 0 where

@@ -1,5 +1,6 @@
-pub mod Built
+pub mod Clients
 pub mod Effects
+pub mod Held
 pub mod Leaves
 pub mod Legal
 pub mod LoadRecords
@@ -11,3 +12,4 @@ pub mod Scans
 pub mod Schedules
 pub mod Switches
 pub mod Tables
+pub mod Undone

@@ -6,12 +6,13 @@ use Rattle.sx_values.specs.declared.catalog.Declared.{Declared}
 use Rattle.sx_log.specs.declared.record.Rec.{Rec}
 use Rattle.sx_log.specs.declared.record.Body.TheVariants as body
 use Rattle.sx_log.specs.State.{row_left}
+use Rattle.sx_log.specs.Undoing.{undo_record}
 use Rattle.sx_journal.specs.declared.entry.Entry.{Entry}
 use Rattle.sx_journal.specs.declared.entry.Event.{Event}
 use Rattle.sx_journal.specs.declared.entry.Event.TheVariants as event
 use Rattle.sx_journal.specs.declared.entry.Request.{Request}
 use Rattle.sx_journal.specs.declared.entry.Request.TheVariants as request
-use Rattle.sx_model.specs.Effects.{Effect, Writes, Commits, Aborts, Starts, Switches, effect}
+use Rattle.sx_model.specs.Effects.{Effect, Writes, Undoes, Commits, Aborts, Starts, Switches, effect}
 use Rattle.sx_model.specs.Openings.{Opening, key_in}
 use Rattle.sx_model.specs.Leaves.{txn_of}
 
@@ -31,9 +32,10 @@ unfoldable pub event_record : List Declared → List Rec → ℕ → Event → O
 event_record catalog log txn (event.Client request) = request_record catalog log txn request
 event_record catalog log txn other = None
 
--- the record that an event with this effect makes behind a log, for a transaction; Undo and Check records come with their requests
+-- the record that an event with this effect makes behind a log, for a transaction; Check records come with their request
 abbrev pub effect_record : List Declared → List Rec → ℕ → Event → Effect → Option Rec
 effect_record catalog log txn asked Writes = event_record catalog log txn asked
+effect_record catalog log txn asked Undoes = undo_record log txn
 effect_record catalog log txn asked Commits = Some (record { txn = txn; body = body.Commit })
 effect_record catalog log txn asked Aborts = Some (record { txn = txn; body = body.Abort })
 effect_record catalog log txn asked (Starts mark) = Some (record { txn = 0; body = body.Mark })

@@ -1,5 +1,5 @@
 -- What a script asks of a journal.
-use Rattle.std.specs.Prelude.{◌≡◌, ◌==◌, ⊤, ℕ, List, [], ◌∷◌, length, filter, slice_get, Option, Some, None, option_map, MatchOption}
+use Rattle.std.specs.Prelude.{◌≡◌, ◌≤◌, ◌+◌, ◌-◌, ◌==◌, ⊤, Bool, false, ℕ, List, [], ◌∷◌, length, filter, map, Option, Some, None, option_map, MatchOption, if◌then◌else◌}
 use Rattle.sx_values.specs.declared.catalog.Declared.{Declared}
 use Rattle.sx_log.specs.declared.record.Load.{Load}
 use Rattle.sx_ops.specs.declared.spec.Spec.{Spec}
@@ -10,13 +10,20 @@ use Rattle.sx_journal.specs.declared.entry.Entry.{Entry}
 use Rattle.sx_journal.specs.declared.entry.Event.{Event}
 use Rattle.sx_journal.specs.declared.entry.Event.TheVariants.{Client, Start, Scan, Switch}
 use Rattle.sx_journal.specs.declared.entry.Request.{Request}
+use Rattle.sx_journal.specs.declared.entry.Request.TheVariants.{Undo}
+use Rattle.sx_journal.specs.declared.course.Command.{Command}
+use Rattle.sx_journal.specs.declared.course.Standing.{Standing}
+use Rattle.sx_journal.specs.Courses.{standing_by, next_at, index_of}
 use Rattle.sx_model.specs.Openings.{Opening, opening}
-use Rattle.sx_model.specs.Leaves.{phase}
+use Rattle.sx_model.specs.Leaves.{Living, living, txn_of, phase}
+use Rattle.sx_model.specs.Held.{least}
+use Rattle.sx_model.specs.Replies.{client_reply}
+use Rattle.sx_model.specs.Legal.{is_committed}
 
 -- a client's line
 pub record Line : Type 0 where
   pub client : ℕ
-  pub asked : Request
+  pub command : Command
 
 -- the plain parts of a script
 pub record Plan : Type 0 where
@@ -25,6 +32,7 @@ pub record Plan : Type 0 where
   pub lines : List Line
   pub change : Option Spec
   pub strategy : Strategy
+  pub retries : ℕ
 
 -- the opening that a script gives
 abbrev pub opening_of : Plan → Opening
@@ -35,12 +43,26 @@ abbrev pub own : ℕ → List Entry → List Entry
 own client past = filter (λ (e : Entry). e.actor == client) past
 
 -- the lines of a client, in order
-abbrev pub lines_of : Plan → ℕ → List Line
-lines_of plan client = filter (λ (l : Line). l.client == client) plan.lines
+abbrev pub commands_of : Plan → ℕ → List Command
+commands_of plan client = map (λ (l : Line). l.command) (filter (λ (l : Line). l.client == client) plan.lines)
 
--- the client's next request: its lines are one request each, in order
+-- where a client stands, by its own entries
+abbrev pub standing_of : Plan → ℕ → List Entry → Standing
+standing_of plan client past = standing_by (commands_of plan client) plan.retries (own client past)
+
+-- the request by which a client goes on with its lines, or None where they are worked through
+abbrev pub next_of_lines : Plan → ℕ → List Entry → Option Request
+next_of_lines plan client past = next_at (commands_of plan client) (standing_of plan client past)
+
+-- what comes behind the lines: an Undo, as long as a transaction lives
+abbrev pub or_undo : Option Request → Option ℕ → Option Request
+or_undo (Some asked) txn = Some asked
+or_undo None (Some txn) = Some Undo
+or_undo None None = None
+
+-- the client's next request: its lines in order, with what is repeated, given up and passed over, and then Undo until no transaction lives
 abbrev pub next_request : Plan → ℕ → List Entry → Option Request
-next_request plan client past = option_map (λ (l : Line). l.asked) (slice_get (lines_of plan client) (length (own client past)))
+next_request plan client past = or_undo (next_of_lines plan client past) (txn_of past client)
 
 -- an event that the script asks of this actor
 unfoldable pub KeepsEvent : Plan → List Entry → ℕ → Event → Type 0
@@ -83,24 +105,58 @@ pub record Turn : Type 0 where
   pub actor : ℕ
   pub event : Event
 
--- the turn of a client's line
-abbrev pub client_turn : Line → Turn
-client_turn l = record { actor = l.client; event = Client l.asked }
+-- the turn of a client's request
+abbrev pub client_turn : ℕ → Request → Turn
+client_turn client asked = record { actor = client; event = Client asked }
 
 -- the turn of an event of the propagator
 abbrev pub propagator_turn : Event → Turn
 propagator_turn event = record { actor = 0; event = event }
 
--- the turn of the next line, or else the propagator's
-abbrev pub turn_at : Option Line → Option Event → Option Turn
-turn_at (Some line) event = Some (client_turn line)
-turn_at None event = option_map propagator_turn event
+-- the same numbers of lines, one less for a client
+abbrev pub one_less : ℕ → (ℕ → ℕ) → ℕ → ℕ
+one_less client passed other = if other == client then passed other - 1 else passed other
 
--- the next turn of one thread: the lines in script order, each one event, and then start, scan turns of 64 and the switch
+-- the first of these lines behind those that their clients have come past, so many for each
+abbrev pub first_open : List Line → (ℕ → ℕ) → Option Line
+first_open [] passed = None
+first_open (l ∷ lines) passed = if passed l.client == 0 then Some l else first_open lines (one_less l.client passed)
+
+-- the first line, in script order, that isn't worked through
+abbrev pub open_line : Plan → List Entry → Option Line
+open_line plan past = first_open plan.lines (λ client. index_of (standing_of plan client past))
+
+-- the least client with a live transaction
+abbrev pub least_living : List Entry → Option ℕ
+least_living past = least (map (λ (l : Living). l.client) (living past))
+
+-- the turn of an open line's client; or else of the least client that has yet to undo; or else the propagator's
+abbrev pub turn_at : Plan → List Entry → Option Line → Option ℕ → Option Turn
+turn_at plan past (Some l) client = option_map (client_turn l.client) (next_of_lines plan l.client past)
+turn_at plan past None (Some client) = Some (client_turn client Undo)
+turn_at plan past None None = option_map propagator_turn (propagator_event plan.change plan.strategy (phase past))
+
+-- the next turn of one thread: the lines in script order, each worked through to its end, then the rollbacks, and then start, scan turns of 64 and the switch
 abbrev pub next_turn : Plan → List Entry → Option Turn
-next_turn plan past = turn_at (slice_get plan.lines (length past)) (propagator_event plan.change plan.strategy (phase past))
+next_turn plan past = turn_at plan past (open_line plan past) (least_living past)
 
 -- each event is the next turn of one thread
 abbrev pub Stepped : Plan → List Entry → Type 0
 Stepped plan [] = ⊤
 Stepped plan (e ∷ past) = Stepped plan past × (next_turn plan past ≡ Some (record { actor = e.actor; event = e.event }))
+
+-- whether a turn would be answered Committed
+unfoldable pub commits_now : Opening → List Entry → ℕ → Event → Bool
+commits_now o past actor (Client asked) = is_committed (client_reply o past actor asked)
+commits_now o past actor other = false
+
+-- no further turn fits into the journal: entries and live transactions number 50,000 or more, and the turn isn't a Commit that would be answered Committed
+pub record IsFull (o : Opening) (past : List Entry) (actor : ℕ) (event : Event) : Type 0 where
+  pub many : 50000 ≤ length past + length (living past)
+  pub uncommitted : commits_now o past actor event ≡ false
+
+-- one thread can't go on: there is a next turn, and it doesn't fit into the journal
+pub record IsStopped (plan : Plan) (past : List Entry) : Type 0 where
+  pub due : Turn
+  pub next : next_turn plan past ≡ Some due
+  pub full : IsFull (opening_of plan) past due.actor due.event

@@ -1,12 +1,17 @@
 -- The answers to an attempt to switch.
-use Rattle.std.specs.Prelude.{◌-◌, ◌==◌, ◌&&◌, ◌||◌, Bool, true, false, ℕ, List, [], ◌∷◌, length, map, filter, min, nat_lt, Option, Some, None, if◌then◌else◌}
+use Rattle.std.specs.Prelude.{◌-◌, ◌==◌, ◌&&◌, ◌||◌, Bool, true, false, ℕ, List, [], ◌∷◌, length, map, filter, nat_lt, Option, Some, None, if◌then◌else◌}
+use Rattle.sx_values.specs.declared.value.Value.{Value}
 use Rattle.sx_values.specs.Names.{has_name}
+use Rattle.sx_values.specs.Layouts.{Layout}
+use Rattle.sx_values.specs.Catalogs.{schema_of}
 use Rattle.sx_log.specs.declared.record.Rec.{Rec}
 use Rattle.sx_log.specs.declared.record.Body.{Body}
 use Rattle.sx_log.specs.declared.record.Body.TheVariants as body
+use Rattle.sx_log.specs.Rows.{Keyed, rows_left}
 use Rattle.sx_ops.specs.declared.spec.Spec.{Spec}
 use Rattle.sx_ops.specs.declared.spec.Spec.TheVariants.{Join, Split, Part, Union}
 use Rattle.sx_ops.specs.Operators.{sources_of}
+use Rattle.sx_ops.specs.Disagreements.{first_disagreement}
 use Rattle.sx_sync.specs.declared.Phase.{Phase}
 use Rattle.sx_sync.specs.declared.Phase.TheVariants.{Idle, Scanning, Chasing, Draining, Late, Done}
 use Rattle.sx_journal.specs.declared.entry.Entry.{Entry}
@@ -20,6 +25,7 @@ use Rattle.sx_model.specs.Effects.{Effect, Reads, Begins, Writes, Starts, Fetche
 use Rattle.sx_model.specs.Openings.{Opening}
 use Rattle.sx_model.specs.Leaves.{Living, living, Started, started, is_blocking, phase}
 use Rattle.sx_model.specs.Logs.{log_of, next_lsn}
+use Rattle.sx_model.specs.Held.{least}
 
 -- the position after an answer: a start sets it to its Mark, a fetch to the end of what it fetched, an attempt that finds a disagreement to the end of the log
 abbrev pub position_after : ℕ → Effect → ℕ → ℕ
@@ -89,28 +95,41 @@ conflicts o past s l =
     if is_blocking s.strategy then has_lock_on (sources_of s.spec) l.client past
     else is_split s.spec && wrote_on (sources_of s.spec) l.txn (log_of o past)
 
--- the lesser of a transaction and another, if there is another
-abbrev pub lesser : ℕ → Option ℕ → ℕ
-lesser txn None = txn
-lesser txn (Some other) = min txn other
-
--- the least of these numbers
-abbrev pub least : List ℕ → Option ℕ
-least [] = None
-least (txn ∷ txns) = Some (lesser txn (least txns))
-
 -- the least live transaction that hinders the switch
 abbrev pub conflict : Opening → List Entry → Started → Option ℕ
 conflict o past s = least (map (λ (l : Living). l.txn) (filter (conflicts o past s) (living past)))
 
--- a vertical split's first disagreement comes before the switch with that operator
-abbrev pub switch_unless : Opening → List Entry → Option ℕ → Reply
-switch_unless o past (Some txn) = reply.Conflict txn
-switch_unless o past None = reply.Switched (next_lsn o past)
+-- the rows of a declared table now, in key order
+abbrev pub rows_now : Opening → List Entry → List ℕ → List (List Value)
+rows_now o past table = map (λ (k : Keyed). k.row) (rows_left (log_of o past) table)
+
+-- the first disagreement of a table with this schema, if it is declared
+abbrev pub disagreement : Option Layout → List (List ℕ) → List (List ℕ) → List (List Value) → Option (List Value × List Value)
+disagreement None by dep rows = None
+disagreement (Some layout) by dep rows = first_disagreement layout by dep rows
+
+-- the first disagreement of a vertical split's source now, if its rows disagree; no other transformation can be violated
+abbrev pub violation : Opening → List Entry → Spec → Option (List Value × List Value)
+violation o past (Split table by dep rest dependent) = disagreement (schema_of o.catalog table) by dep (rows_now o past table)
+violation o past (Join left right on_left on_right into) = None
+violation o past (Part table tests passing failing) = None
+violation o past (Union left right into) = None
+
+-- the switch, unless two rows disagree
+abbrev pub unless_violated : Option (List Value × List Value) → Reply → Reply
+unless_violated (Some keys) answer = reply.Violated keys.0 keys.1
+unless_violated None answer = answer
+
+-- the switch, unless a transaction hinders it
+abbrev pub unless_hindered : Option ℕ → Reply → Reply
+unless_hindered (Some txn) answer = reply.Conflict txn
+unless_hindered None answer = answer
 
 -- an attempt whose tail is the records from the position to the log's end
 abbrev pub tail_reply : Opening → List Entry → Started → ℕ → ℕ → Reply
-tail_reply o past s position end = if nat_lt 256 (end - position) then reply.Unread position end else switch_unless o past (conflict o past s)
+tail_reply o past s position end =
+    if nat_lt 256 (end - position) then reply.Unread position end
+    else unless_hindered (conflict o past s) (unless_violated (violation o past s.spec) (reply.Switched (next_lsn o past)))
 
 -- an attempt to switch the transformation that has started, if one has
 abbrev pub attempt_reply : Opening → List Entry → Option Started → Reply

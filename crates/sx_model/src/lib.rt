@@ -2,28 +2,44 @@
 //! The definitions stand in `specs/`; the functions here have no bodies and state laws about them.
 #![tactic(auto)]
 
-ghost use Rattle.std.specs.Prelude.{◌≡◌, ◌≢◌, ◌≤◌, ◌+◌, ◌⊎◌, ⊤, ℕ, List, [], ◌∷◌, length, ◌↔◌, Option, Some, None, MatchOption};
+ghost use Rattle.std.specs.Prelude.{◌≡◌, ◌≢◌, ◌≤◌, ◌+◌, true, false, ℕ, List, [], ◌∷◌, length, ◌↔◌, Some, None};
 ghost use Rattle.std.specs.List.{AllByRecursion};
 ghost use Rattle.sx_values.specs.declared.value.Value.{Value};
 ghost use Rattle.sx_values.specs.declared.catalog.Declared.{Declared};
 ghost use Rattle.sx_log.specs.declared.record.Rec.{Rec};
 ghost use Rattle.sx_log.specs.declared.record.Load.{Load};
 ghost use Rattle.sx_log.specs.State.{state_at, row_left};
-ghost use Rattle.sx_log.specs.Committed.{committed};
-ghost use Rattle.sx_sync.specs.declared.Phase.TheVariants.{Idle, Draining};
+ghost use Rattle.sx_log.specs.Committed.{commits, committed};
+ghost use Rattle.sx_sync.specs.declared.Phase.TheVariants.{Idle, Chasing, Draining};
 ghost use Rattle.sx_journal.specs.declared.entry.Entry.{Entry};
+ghost use Rattle.sx_journal.specs.declared.entry.Request.{Request};
+ghost use Rattle.sx_journal.specs.declared.entry.Reply.TheVariants as reply;
+ghost use Rattle.sx_journal.specs.Courses.{index_of};
 ghost use Rattle.sx_model.specs.Openings.{Opening, opening};
 ghost use Rattle.sx_model.specs.LoadRecords.{IsOpened};
-ghost use Rattle.sx_model.specs.Leaves.{Started, Living, living, started, phase};
-ghost use Rattle.sx_model.specs.Logs.{log_of};
+ghost use Rattle.sx_model.specs.Leaves.{Started, living, begun, started, phase};
+ghost use Rattle.sx_model.specs.Clients.{IsClient, AreLiving};
+ghost use Rattle.sx_model.specs.Logs.{log_of, next_lsn};
+ghost use Rattle.sx_model.specs.Switches.{switch_reply};
 ghost use Rattle.sx_model.specs.Legal.{Legal};
 ghost use Rattle.sx_model.specs.Scans.{reading, IsRowNow, SawAll, Covers};
-ghost use Rattle.sx_model.specs.Schedules.{Stepped, KeepsScript, IsComplete, next_turn, Plan};
+ghost use Rattle.sx_model.specs.Schedules.{Plan, Line, standing_of, open_line, next_request, client_turn, next_turn, Stepped, KeepsScript, IsComplete};
+ghost use Rattle.sx_model.specs.Undone.{has_undone};
 ghost use Rattle.sx_model.specs.Tables.{AreNewTables, AreCommittedNewTables};
 
 /// A journal whose events are those of one thread keeps the script.
 pub fn stepped_keeps_the_script()
     ensures { (plan : Plan) (past : List Entry) → Stepped plan past → KeepsScript plan past }
+{}
+
+/// The next turn of one thread, where it is a client's, is that client's next request.
+pub fn a_clients_turn_is_its_next_request()
+    ensures { (plan : Plan) (past : List Entry) (actor : ℕ) (asked : Request) → next_turn plan past ≡ Some (client_turn actor asked) → next_request plan actor past ≡ Some asked }
+{}
+
+/// And its client is one from 1 to 8, where those of the script's lines are.
+pub fn a_clients_turn_is_of_a_client()
+    ensures { (o : Opening) (plan : Plan) (past : List Entry) (actor : ℕ) (asked : Request) → Legal o past → AllByRecursion (λ (l : Line). IsClient l.client) plan.lines → next_turn plan past ≡ Some (client_turn actor asked) → IsClient actor }
 {}
 
 /// A journal of one thread that has no next turn is complete, unless a conflict drains.
@@ -51,9 +67,15 @@ pub fn a_whole_scan_covers()
     ensures { (log : List Rec) (mark : ℕ) (lsns table : List ℕ) → mark ≤ length log → AllByRecursion (IsRowNow log table) lsns → SawAll log lsns table → Covers log mark lsns table }
 {}
 
-/// In a legal journal nobody lives, or client 1 alone.
-pub fn one_client_lives()
-    ensures { (o : Opening) (past : List Entry) → Legal o past → (living past ≡ []) ⊎ ((txn : ℕ) × (living past ≡ record { client = 1; txn = txn } ∷ [])) }
+/// In a legal journal the live transactions are of different clients from 1 to 8, and have different numbers from 1 to
+/// as many as were begun.
+pub fn the_living_differ()
+    ensures { (o : Opening) (past : List Entry) → Legal o past → AreLiving (begun past) (living past) }
+{}
+
+/// And so they are at most eight.
+pub fn at_most_eight_live()
+    ensures { (o : Opening) (past : List Entry) → Legal o past → length (living past) ≤ 8 }
 {}
 
 /// In a legal journal nothing was started exactly while the phase is Idle.
@@ -66,6 +88,11 @@ pub fn the_log_grows_by_one()
     ensures { (o : Opening) (past : List Entry) (e : Entry) → length (log_of o (e ∷ past)) ≤ length (log_of o past) + 1 }
 {}
 
+/// A committed transaction has undone nothing: the log has no Undo record of it.
+pub fn a_committed_transaction_has_undone_nothing()
+    ensures { (o : Opening) (past : List Entry) (txn : ℕ) → IsOpened o → Legal o past → commits (log_of o past) txn ≡ true → has_undone (log_of o past) txn ≡ false }
+{}
+
 /// Where no transaction lives the committed writes alone leave the rows that the log leaves.
 pub fn at_rest_the_rows_are_the_committed_ones()
     ensures { (o : Opening) (past : List Entry) → IsOpened o → Legal o past → living past ≡ [] → (table : List ℕ) (key : List Value) → row_left (committed (log_of o past)) table key ≡ row_left (log_of o past) table key }
@@ -74,4 +101,24 @@ pub fn at_rest_the_rows_are_the_committed_ones()
 /// And so the new tables are the committed ones.
 pub fn at_rest_the_new_tables_are_the_committed_ones()
     ensures { (o : Opening) (past : List Entry) (s : Started) (tables : List (List (List Value))) → IsOpened o → Legal o past → living past ≡ [] → AreNewTables o past s tables → AreCommittedNewTables o past s tables }
+{}
+
+/// Lines that are worked through stay so, whatever comes.
+pub fn worked_lines_stay_so()
+    ensures { (plan : Plan) (past : List Entry) (e : Entry) → open_line plan past ≡ None → open_line plan (e ∷ past) ≡ None }
+{}
+
+/// A client's line is never open again that it has come past: its standing goes on, or stays.
+pub fn a_client_never_goes_back()
+    ensures { (plan : Plan) (client : ℕ) (past : List Entry) (e : Entry) → index_of (standing_of plan client past) ≤ index_of (standing_of plan client (e ∷ past)) }
+{}
+
+/// A legal journal's entries and live transactions are at most 50,001.
+pub fn a_journal_is_bounded()
+    ensures { (o : Opening) (past : List Entry) → Legal o past → length past + length (living past) ≤ 50001 }
+{}
+
+/// A switch is done where the scan has ended and nobody lives.
+pub fn a_switch_at_rest_is_done()
+    ensures { (o : Opening) (past : List Entry) → Legal o past → living past ≡ [] → phase past ≡ Chasing → switch_reply o past ≡ reply.Switched (next_lsn o past) }
 {}

@@ -1,10 +1,5 @@
 pub mod AgainLaws
-pub mod ColumnLaws
-pub mod DraftLaws
-pub mod FieldLaws
-pub mod NameLaws
-pub mod PartLaws
+pub mod KeepLaws
 pub mod PlanLaws
 pub mod ReadLaws
 pub mod ScriptLaws
-pub mod SpecLaws

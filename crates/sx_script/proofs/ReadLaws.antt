@@ -1,17 +1,10 @@
 -- A script is read line by line.
-use Rattle.std.proofs.Common.{◌≡◌, ◌≤◌, ◌<◌, ◌+◌, ◌++◌, ℕ, suc, Bool, true, false, not, cond, nat_le, List, [], ◌∷◌, length, Option, Some, None, Result, Ok, Err, option_map, option_and_then, refl, sym, ap, ◌∙◌, subst, arith, append-nil, append_assoc, IsTrue, if◌then◌else◌}
-use Rattle.std.specs.List.{list_all}
-use Rattle.std.specs.Option.{IfSome}
+use Rattle.std.proofs.Common.{◌≡◌, ◌≤◌, ◌<◌, ◌+◌, ◌++◌, ℕ, suc, Bool, true, false, cond, nat_le, List, [], length, Option, Some, None, option_map, option_and_then, refl, ap, ◌∙◌, arith, append-nil, append_assoc}
 use Rattle.std.proofs.lemmas.Bool.Decides.{nat_tests}
-use Rattle.sx_script.specs.declared.line.Line.{Line}
-use Rattle.sx_script.specs.declared.fault.ScriptFault.{ScriptFault}
-use Rattle.sx_script.specs.declared.fault.ScriptFault.TheVariants.{Bad}
-use Rattle.sx_script.specs.declared.fault.ScriptCause.TheVariants.{Later}
-use Rattle.sx_script.specs.Lines.{text_lines, next_line, when}
-use Rattle.sx_script.specs.Plans.{plan_of, is_open}
+use Rattle.sx_lines.specs.declared.line.Line.{Line}
+use Rattle.sx_lines.specs.Lines.{text_lines, next_line}
 use Rattle.sx_script.specs.Reading.{item_in, lines_read, script_read}
-use Rattle.sx_script.specs.Scripts.{Reads, IsRead}
-use Rattle.sx_script.proofs.PartLaws.{first_line, no_line}
+use Rattle.sx_lines.proofs.PartLaws.{first_line, no_line}
 
 -- what is read behind the lines so far, with them
 abbrev pub whole : List Line → Option (List Line) → Option (List Line)
@@ -33,23 +26,19 @@ refused : (sofar : List Line) (found : Option (List Line)) (texts : List (List �
 refused sofar None texts e = refl
 refused sofar (Some item) texts e = absurd (cc)
 
-pub read_further : (sofar longer : List Line) (left text rest : List ℕ) → next_line left ≡ Some (text, rest) → Some longer ≡ whole sofar (item_in (plan_of sofar) text)
+pub read_further : (sofar longer : List Line) (left text rest : List ℕ) → next_line left ≡ Some (text, rest) → Some longer ≡ whole sofar (item_in sofar text)
     → whole longer (lines_read longer (text_lines rest)) ≡ whole sofar (lines_read sofar (text_lines left))
-read_further sofar longer left text rest n e = rw (first_line left text rest n) (further sofar longer (item_in (plan_of sofar) text) (text_lines rest) e)
+read_further sofar longer left text rest n e = rw (first_line left text rest n) (further sofar longer (item_in sofar text) (text_lines rest) e)
 
-pub read_refused : (sofar : List Line) (left text rest : List ℕ) → next_line left ≡ Some (text, rest) → None ≡ whole sofar (item_in (plan_of sofar) text)
+pub read_refused : (sofar : List Line) (left text rest : List ℕ) → next_line left ≡ Some (text, rest) → None ≡ whole sofar (item_in sofar text)
     → whole sofar (lines_read sofar (text_lines left)) ≡ None
-read_refused sofar left text rest n e = rw (first_line left text rest n) (refused sofar (item_in (plan_of sofar) text) (text_lines rest) e)
+read_refused sofar left text rest n e = rw (first_line left text rest n) (refused sofar (item_in sofar text) (text_lines rest) e)
 
 pub count_further : (left text rest : List ℕ) → next_line left ≡ Some (text, rest) → length (text_lines left) ≡ suc (length (text_lines rest))
 count_further left text rest n = ap length (first_line left text rest n)
 
-at_end : (sofar : List Line) (t : Bool) → whole sofar (when t []) ≡ when t sofar
-at_end sofar true = ap Some (append-nil sofar)
-at_end sofar false = refl
-
-pub read_end : (sofar : List Line) (left : List ℕ) → next_line left ≡ None → whole sofar (lines_read sofar (text_lines left)) ≡ when (not (is_open (plan_of sofar))) sofar
-read_end sofar left n = rw (no_line left n) (at_end sofar (not (is_open (plan_of sofar))))
+pub read_end : (sofar : List Line) (left : List ℕ) → next_line left ≡ None → whole sofar (lines_read sofar (text_lines left)) ≡ Some sofar
+read_end sofar left n = rw (no_line left n) (ap Some (append-nil sofar))
 
 pub script_many : (bytes : List ℕ) → 20000 < length (text_lines bytes) → script_read bytes ≡ None
 script_many bytes h = let many : nat_le (length (text_lines bytes)) 20000 ≡ false = grind (arith, nat_tests) in rw many refl
@@ -63,15 +52,3 @@ script_none bytes e = by (nat_le (length (text_lines bytes)) 20000)
     by : (t : Bool) → cond t (lines_read [] (text_lines bytes)) None ≡ None
     by true = e
     by false = refl
-
--- what is answered at the end of the text
-pub read_whole : (sofar : List Line) (bytes : List ℕ) (answer : Result (List Line) ScriptFault) → script_read bytes ≡ when (not (is_open (plan_of sofar))) sofar
-    → answer ≡ (if is_open (plan_of sofar) then Err (Bad 0 Later) else Ok sofar) → Reads answer (script_read bytes)
-read_whole sofar bytes answer read e = subst (λ a. Reads a (script_read bytes)) (sym e) (by (is_open (plan_of sofar)) read)
-  where
-    by : (t : Bool) → script_read bytes ≡ when (not t) sofar → Reads (cond t (Err (Bad 0 Later)) (Ok sofar)) (script_read bytes)
-    by true r = (r, refl, refl)
-    by false r = r
-
-pub read_from : (sofar : List Line) (bytes : List ℕ) → script_read bytes ≡ when (not (is_open (plan_of sofar))) sofar → not (is_open (plan_of sofar)) ≡ true → IsRead sofar
-read_from sofar bytes read closed = record { bytes = bytes; read = read ∙ ap (λ t. when t sofar) closed }

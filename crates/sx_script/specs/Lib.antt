@@ -1,7 +1,3 @@
-pub mod Asking
-pub mod Columns
-pub mod Fields
-pub mod Lines
 pub mod Parsers
 pub mod Plans
 pub mod Printing

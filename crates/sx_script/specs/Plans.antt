@@ -1,6 +1,6 @@
 -- What the lines of a script ask together, and which line may follow others.
-use Rattle.std.specs.Prelude.{◌≡◌, ◌==◌, ◌&&◌, Bool, true, false, not, is_some, ℕ, List, [], ◌∷◌, length, Option, Some, None, unwrap_or}
-use Rattle.std.specs.List.{filter_map, list_any}
+use Rattle.std.specs.Prelude.{◌+◌, ◌==◌, ◌&&◌, Bool, true, false, not, is_some, ℕ, List, [], ◌∷◌, length, nat_le, nat_lt, Option, Some, None, unwrap_or}
+use Rattle.std.specs.List.{cons_option, filter_map, list_any}
 use Rattle.sx_values.specs.Layouts.{Layout, row_fault, is_null}
 use Rattle.sx_values.specs.Catalogs.{schema_of}
 use Rattle.sx_values.specs.declared.catalog.Declared.{Declared}
@@ -11,14 +11,10 @@ use Rattle.sx_ops.specs.declared.spec.Test.{Test}
 use Rattle.sx_ops.specs.Checks.{spec_fault}
 use Rattle.sx_sync.specs.declared.Strategy.{Strategy}
 use Rattle.sx_sync.specs.declared.Strategy.TheVariants.{Blocking}
-use Rattle.sx_journal.specs.declared.entry.Request.{Request}
-use Rattle.sx_journal.specs.declared.entry.Request.TheVariants as request
-use Rattle.sx_journal.specs.declared.entry.What.{What}
-use Rattle.sx_journal.specs.declared.entry.What.TheVariants.{Ask, Abort}
 use Rattle.sx_model.specs.Schedules.{Plan, Line as Asked}
 use Rattle.sx_model.specs.Loads.{is_repeated}
-use Rattle.sx_script.specs.declared.line.Line.{Line}
-use Rattle.sx_script.specs.declared.line.Line.TheVariants as line
+use Rattle.sx_lines.specs.declared.line.Line.{Line}
+use Rattle.sx_lines.specs.declared.line.Line.TheVariants as line
 
 -- the table that a line declares
 abbrev pub table_of : Line → Option Declared
@@ -30,14 +26,20 @@ abbrev pub load_of : Line → Option Load
 load_of (line.Row table row) = Some (record { table = table; row = row })
 load_of other = None
 
--- the request of a client's line; one that aborts comes with undoing
-abbrev pub asked_by : ℕ → What → Option Asked
-asked_by n (Ask asked) = Some (record { client = n; asked = asked })
-asked_by n Abort = None
+-- what a client does on the line at this place
+abbrev pub asked_at : ℕ → Line → Option Asked
+asked_at place (line.Client n what) = Some (record { client = n; command = record { line = place; what = what } })
+asked_at place other = None
 
-abbrev pub asked_of : Line → Option Asked
-asked_of (line.Client n what) = asked_by n what
-asked_of other = None
+-- what clients do on these lines, of which the first is at this place
+abbrev pub asked_from : ℕ → List Line → List Asked
+asked_from place [] = []
+asked_from place (l ∷ lines) = cons_option (asked_at place l) (asked_from (place + 1) lines)
+
+-- the client of a client's line
+abbrev pub client_of : Line → Option ℕ
+client_of (line.Client n what) = Some n
+client_of other = None
 
 abbrev pub change_of : Line → Option Spec
 change_of (line.Change spec) = Some spec
@@ -47,36 +49,40 @@ abbrev pub strategy_of : Line → Option Strategy
 strategy_of (line.Strategy strategy) = Some strategy
 strategy_of other = None
 
+abbrev pub retries_of : Line → Option ℕ
+retries_of (line.Retries n) = Some n
+retries_of other = None
+
 abbrev pub first : {A : Type 0} → List A → Option A
 first [] = None
 first (x ∷ xs) = Some x
 
--- what lines ask together: tables, rows to load, clients' requests, a transformation and a strategy
+-- what lines ask together: tables, rows to load, what clients do, a transformation and a strategy, and how often a request that was held is repeated
 abbrev pub plan_of : List Line → Plan
 plan_of lines = record {
   catalog = filter_map table_of lines;
   loads = filter_map load_of lines;
-  lines = filter_map asked_of lines;
+  lines = asked_from 1 lines;
   change = first (filter_map change_of lines);
   strategy = unwrap_or (first (filter_map strategy_of lines)) Blocking;
+  retries = unwrap_or (first (filter_map retries_of lines)) 8;
 }
 
 -- whether no client's line has come
 abbrev pub is_declaring : Plan → Bool
 is_declaring plan = length plan.lines == 0
 
-abbrev pub is_commit : Request → Bool
-is_commit request.Commit = true
-is_commit other = false
+-- whether the lines say how often a request is repeated
+abbrev pub has_retries : List Line → Bool
+has_retries lines = is_some (first (filter_map retries_of lines))
 
--- whether a block is open behind these requests, of which the last one decides
-abbrev pub is_open_behind : Bool → List Asked → Bool
-is_open_behind inside [] = inside
-is_open_behind inside (asked ∷ rest) = is_open_behind (not (is_commit asked.asked)) rest
+-- whether a number is a client's
+abbrev pub is_client : ℕ → Bool
+is_client n = nat_le 1 n && nat_le n 8
 
--- whether a block is open: begun and not committed
-abbrev pub is_open : Plan → Bool
-is_open plan = is_open_behind false plan.lines
+-- whether a further table may have this name: it is new, and at most 15 tables are declared
+abbrev pub takes_table : List Declared → List ℕ → Bool
+takes_table catalog name = not (is_some (schema_of catalog name)) && nat_lt (length catalog) 16
 
 -- whether a table admits a row
 abbrev pub admits : Option Layout → Load → Bool
@@ -98,28 +104,17 @@ abbrev pub has_one_test : Spec → Bool
 has_one_test (spec.Part table tests passing failing) = is_one_test tests
 has_one_test other = false
 
--- whether a request goes on from an open block or from none
-abbrev pub fits_block : Bool → Request → Bool
-fits_block inside request.Begin = not inside
-fits_block inside (request.Insert table row) = inside
-fits_block inside (request.Update table row) = inside
-fits_block inside (request.Delete table key) = inside
-fits_block inside request.Commit = inside
-fits_block inside (request.Read table key) = false
-fits_block inside request.Undo = false
+-- whether a line may follow these, whose plan this is
+abbrev pub accepts_in : Plan → List Line → Line → Bool
+accepts_in plan lines (line.Table name schema) = is_declaring plan && not (is_some plan.change) && takes_table plan.catalog name
+accepts_in plan lines (line.Row table row) = is_declaring plan && is_loadable plan (record { table = table; row = row })
+accepts_in plan lines (line.Change spec) = is_declaring plan && not (is_some plan.change) && has_one_test spec && not (is_some (spec_fault plan.catalog spec))
+accepts_in plan lines (line.Retries n) = is_declaring plan && not (has_retries lines) && nat_le n 8
+accepts_in plan lines (line.Client n what) = is_client n
+accepts_in plan lines (line.Index table columns) = false
+accepts_in plan lines (line.Strategy strategy) = false
+accepts_in plan lines (line.Pace pace) = false
 
--- whether a client's line may follow: of client 1, in blocks
-abbrev pub accepts_asked : Plan → ℕ → What → Bool
-accepts_asked plan n (Ask asked) = (n == 1) && fits_block (is_open plan) asked
-accepts_asked plan n Abort = false
-
--- whether a line may follow those of a plan: one table, loadable rows, one transformation that fits, and then blocks
-abbrev pub accepts : Plan → Line → Bool
-accepts plan (line.Table name schema) = is_declaring plan && not (is_some plan.change) && (length plan.catalog == 0)
-accepts plan (line.Row table row) = is_declaring plan && is_loadable plan (record { table = table; row = row })
-accepts plan (line.Change spec) = is_declaring plan && not (is_some plan.change) && has_one_test spec && not (is_some (spec_fault plan.catalog spec))
-accepts plan (line.Client n what) = accepts_asked plan n what
-accepts plan (line.Index table columns) = false
-accepts plan (line.Strategy strategy) = false
-accepts plan (line.Retries n) = false
-accepts plan (line.Pace pace) = false
+-- whether a line may follow these: declarations first, of tables, loadable rows, one transformation that fits and one number of repeats; then clients' lines
+abbrev pub accepts : List Line → Line → Bool
+accepts lines l = accepts_in (plan_of lines) lines l

@@ -2,7 +2,7 @@
 use Rattle.std.specs.Prelude.{◌≡◌, ⊤, ℕ, List, Option, Some, None, Result, Ok, Err}
 use Rattle.sx_values.specs.declared.catalog.Declared.{Declared}
 use Rattle.sx_values.specs.Catalogs.{IsCatalog}
-use Rattle.sx_script.specs.declared.line.Line.{Line}
+use Rattle.sx_lines.specs.declared.line.Line.{Line}
 use Rattle.sx_script.specs.declared.fault.ScriptFault.{ScriptFault}
 use Rattle.sx_script.specs.declared.fault.ScriptFault.TheVariants.{Memory, Bad}
 use Rattle.sx_script.specs.declared.fault.ScriptCause.TheVariants.{Later}

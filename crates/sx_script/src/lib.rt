@@ -1,21 +1,15 @@
-//! Scripts: their lines, what text they are read from, and what they ask.
+//! Scripts: the bytes that they are read from, their text, and what their lines ask together.
 #![tactic(auto)]
 
-mod columns;
 mod fault;
-mod fields;
-mod forms;
-mod line;
 mod parser;
 mod plan;
 mod print;
 mod script;
 #[cfg(test)]
 mod tests;
-mod text;
 
 pub use fault::{ScriptCause, ScriptFault};
-pub use line::{Line, PropLine};
-pub use plan::Asked;
-pub use print::{print_script, put_line, put_script};
+pub use print::{print_script, put_script};
 pub use script::{Script, parse_script};
+pub use sx_lines::{Line, PropLine, put_line};

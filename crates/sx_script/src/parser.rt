@@ -1,48 +1,55 @@
 // A script while it is read, line by line.
-ghost use Rattle.std.specs.Prelude.{◌≡◌, ◌++◌, ◌∷◌, [], not, IfOk, option_map};
+ghost use Rattle.std.specs.Prelude.{◌≡◌, ◌++◌, ◌∷◌, [], not, is_some, IfOk, option_map};
 ghost use Rattle.std.specs.Bool.{OnTrue};
-ghost use Rattle.sx_ops.specs.Checks.{IsShaped, AreTests};
-ghost use Rattle.sx_script.specs.Lines.{when};
-ghost use Rattle.sx_script.specs.Plans.{plan_of, is_open, is_commit, has_one_test, is_one_test, fits_block, accepts};
-ghost use Rattle.sx_script.specs.Reading.{item_in, line_in, asks};
+ghost use Rattle.sx_ops.specs.Checks.{IsShaped, AreTests, spec_fault};
+ghost use Rattle.sx_lines.specs.Lines.{when};
+ghost use Rattle.sx_lines.specs.Forms.{IsFit, IsTableSchema};
+ghost use Rattle.sx_script.specs.Plans.{has_one_test, is_one_test, is_client, accepts};
+ghost use Rattle.sx_script.specs.Reading.{item_in, line_in};
 ghost use Rattle.sx_script.specs.Scripts.{IsRead};
-ghost use Rattle.sx_script.specs.Sound.{IsFit, IsTableSchema};
 
-use crate::fields::fits;
-use crate::forms::{asks, line_of};
-use crate::text::{are_printable, is_passed_over};
-use crate::{Line, Script};
+use crate::Script;
 use std::alloc::{AllocError, Global};
 use std::collections::HashSet;
 use std::marker::Model;
-use sx_journal::{Request, What};
-use sx_lists::{Copied, List};
-use sx_ops::{Spec, Test};
+use sx_journal::What;
+use sx_lines::{Line, are_printable, is_passed_over, line_of};
+use sx_lists::{Copied, List, bytes_of};
+use sx_ops::{Spec, SpecFault, Test};
 use sx_values::{Catalog, CatalogFault, Key, Name, Row, Schema, Value};
+
+// A key of a table.
+#[derive(Drop, PartialEq, Eq, Hash)]
+pub(crate) struct Place {
+    table: List<u8>,
+    key: Key,
+}
 
 // The lines so far, with what the next ones are judged by.
 #[derive(Drop)]
 pub(crate) struct Parser {
     lines: Vec<Line>,
     catalog: Catalog,
-    // The keys of the loaded rows.
-    keys: HashSet<Key>,
+    // Where the loaded rows are.
+    places: HashSet<Place>,
+    // Whether there is a transformation.
     is_changed: bool,
+    // Whether there is a client's line.
     is_started: bool,
-    is_open: bool,
+    // Whether there is a number of repeats.
+    is_counted: bool,
 }
 
 impl Model for Parser {
     ghost use Rattle.std.specs.Prelude.{List};
-    ghost use Rattle.sx_script.specs.declared.line.Line.{Line as ScriptLine};
-    ghost use Rattle.sx_script.specs.Plans.{plan_of};
+    ghost use Rattle.sx_lines.specs.declared.line.Line.{Line as ScriptLine};
     ghost use Rattle.sx_script.specs.Parsers.{Keeps};
 
     ghost Value = { List ScriptLine };
 
     ghost view = { λ p. p.lines.items };
 
-    ghost invariant = { λ p. Keeps (plan_of p.lines.items) p.catalog p.keys.keys p.is_changed p.is_started p.is_open };
+    ghost invariant = { λ p. Keeps p.lines.items p.catalog p.places.keys p.is_changed p.is_started p.is_counted };
 }
 
 impl Parser {
@@ -52,18 +59,11 @@ impl Parser {
         Parser {
             lines: Vec::new(alloc),
             catalog: Catalog::new(alloc),
-            keys: HashSet::new(alloc),
+            places: HashSet::new(alloc),
             is_changed: false,
             is_started: false,
-            is_open: false,
+            is_counted: false,
         }
-    }
-
-    // Whether no block is open.
-    pub(crate) fn is_at_end(&self) -> bool
-        ensures { result ≡ not (is_open (plan_of self.now)) }
-    {
-        !self.is_open
     }
 
     // The script of these lines.
@@ -78,7 +78,7 @@ impl Parser {
     // The lines so far with a further text's.
     #[tactic(auto, unfolding(crate::specs::Reading::item_in))]
     pub(crate) fn with_text(self, alloc: Global, text: &[u8]) -> Result<Option<Parser>, AllocError>
-        ensures { IfOk result (λ parser. parser ≡ option_map (λ item. self ++ item) (item_in (plan_of self) text.now)) }
+        ensures { IfOk result (λ parser. parser ≡ option_map (λ item. self ++ item) (item_in self text.now)) }
     {
         if !are_printable(text) {
             return Ok(None);
@@ -91,7 +91,7 @@ impl Parser {
 
     #[tactic(auto, unfolding(crate::specs::Reading::line_in))]
     fn with_shown(self, alloc: Global, text: &[u8]) -> Result<Option<Parser>, AllocError>
-        ensures { IfOk result (λ parser. parser ≡ option_map (λ line. self ++ line ∷ []) (line_in (plan_of self) text.now)) }
+        ensures { IfOk result (λ parser. parser ≡ option_map (λ line. self ++ line ∷ []) (line_in self text.now)) }
     {
         match line_of(alloc, &self.catalog, text)? {
             Some(line) => self.with_line(alloc, line),
@@ -102,17 +102,15 @@ impl Parser {
     // The lines with a further one, where it may follow.
     fn with_line(self, alloc: Global, line: Line) -> Result<Option<Parser>, AllocError>
         requires { IsFit line }
-        ensures { IfOk result (λ parser. parser ≡ when (accepts (plan_of self) line) (self ++ line ∷ [])) }
+        ensures { IfOk result (λ parser. parser ≡ when (accepts self line) (self ++ line ∷ [])) }
     {
         match line {
             Line::Table { name, schema } => self.with_table(alloc, name, schema),
             Line::Row { table, row } => self.with_row(alloc, table, row),
             Line::Change { spec } => self.with_change(alloc, spec),
-            Line::Client {
-                n: 1,
-                what: What::Ask(request),
-            } => self.with_request(request),
-            _ => Ok(None),
+            Line::Retries { n } => self.with_retries(n),
+            Line::Client { n, what } => self.with_client(n, what),
+            Line::Index { .. } | Line::Strategy { .. } | Line::Pace(_) => Ok(None),
         }
     }
 
@@ -123,9 +121,9 @@ impl Parser {
         schema: Schema,
     ) -> Result<Option<Parser>, AllocError>
         requires { IsTableSchema schema }
-        ensures { IfOk result (λ parser. parser ≡ when (accepts (plan_of self) (Line.Table name schema)) (self ++ Line.Table name schema ∷ [])) }
+        ensures { IfOk result (λ parser. parser ≡ when (accepts self (Line.Table name schema)) (self ++ Line.Table name schema ∷ [])) }
     {
-        if self.is_started || self.is_changed || !self.catalog.tables().is_empty() {
+        if self.is_started || self.is_changed {
             return Ok(None);
         }
         match self.catalog.declare(name.copy(alloc)?, schema.copy(alloc)?) {
@@ -143,7 +141,7 @@ impl Parser {
         table: Name,
         row: Row,
     ) -> Result<Option<Parser>, AllocError>
-        ensures { IfOk result (λ parser. parser ≡ when (accepts (plan_of self) (Line.Row table row)) (self ++ Line.Row table row ∷ [])) }
+        ensures { IfOk result (λ parser. parser ≡ when (accepts self (Line.Row table row)) (self ++ Line.Row table row ∷ [])) }
     {
         if self.is_started {
             return Ok(None);
@@ -155,7 +153,8 @@ impl Parser {
             return Ok(None);
         }
         let key = schema.key_of(alloc, &row)?;
-        if !self.keys.insert(key)? {
+        let name = bytes_of(alloc, table.as_bytes())?;
+        if !self.places.insert(Place { table: name, key })? {
             return Ok(None);
         }
         self.lines.push(Line::Row { table, row })?;
@@ -163,7 +162,7 @@ impl Parser {
     }
 
     fn with_change(mut self, alloc: Global, spec: Spec) -> Result<Option<Parser>, AllocError>
-        ensures { IfOk result (λ parser. parser ≡ when (accepts (plan_of self) (Line.Change spec)) (self ++ Line.Change spec ∷ [])) }
+        ensures { IfOk result (λ parser. parser ≡ when (accepts self (Line.Change spec)) (self ++ Line.Change spec ∷ [])) }
     {
         if self.is_started || self.is_changed {
             return Ok(None);
@@ -179,16 +178,45 @@ impl Parser {
         Ok(Some(self))
     }
 
-    fn with_request(mut self, request: Request) -> Result<Option<Parser>, AllocError>
-        ensures { IfOk result (λ parser. parser ≡ when (accepts (plan_of self) (asks request)) (self ++ asks request ∷ [])) }
+    fn with_retries(mut self, n: u8) -> Result<Option<Parser>, AllocError>
+        ensures { IfOk result (λ parser. parser ≡ when (accepts self (Line.Retries n)) (self ++ Line.Retries n ∷ [])) }
     {
-        if !fits_block(self.is_open, &request) {
+        if self.is_started || self.is_counted || n > 8 {
+            return Ok(None);
+        }
+        self.is_counted = true;
+        self.lines.push(Line::Retries { n })?;
+        Ok(Some(self))
+    }
+
+    fn with_client(mut self, n: u8, what: What) -> Result<Option<Parser>, AllocError>
+        ensures { IfOk result (λ parser. parser ≡ when (accepts self (Line.Client n what)) (self ++ Line.Client n what ∷ [])) }
+    {
+        if !is_client(n) {
             return Ok(None);
         }
         self.is_started = true;
-        self.is_open = !is_commit(&request);
-        self.lines.push(asks(request))?;
+        self.lines.push(Line::Client { n, what })?;
         Ok(Some(self))
+    }
+}
+
+// Whether a number is a client's.
+fn is_client(n: u8) -> bool
+    ensures { result ≡ is_client n }
+{
+    1 <= n && n <= 8
+}
+
+// Whether a transformation fits the declared tables.
+fn fits(alloc: Global, catalog: &Catalog, spec: &Spec) -> Result<bool, AllocError>
+    requires { IsShaped spec.now }
+    ensures { IfOk result (λ fits. fits ≡ not (is_some (spec_fault catalog.now spec.now))) }
+{
+    match spec.check(alloc, catalog) {
+        Ok(()) => Ok(true),
+        Err(SpecFault::Memory) => Err(AllocError),
+        Err(_fault) => Ok(false),
     }
 }
 
@@ -217,24 +245,4 @@ fn is_one_test(tests: &[Test]) -> bool
         [test] => !matches!(test.value, Value::Null),
         _ => false,
     }
-}
-
-// Whether a request goes on from an open block or from none.
-fn fits_block(is_open: bool, request: &Request) -> bool
-    ensures { result ≡ fits_block is_open request.now }
-{
-    match request {
-        Request::Begin => !is_open,
-        Request::Insert { table: _, row: _ }
-        | Request::Update { table: _, row: _ }
-        | Request::Delete { table: _, key: _ }
-        | Request::Commit => is_open,
-        Request::Read { table: _, key: _ } | Request::Undo => false,
-    }
-}
-
-fn is_commit(request: &Request) -> bool
-    ensures { result ≡ is_commit request.now }
-{
-    matches!(request, Request::Commit)
 }

@@ -1,16 +1,19 @@
 // What the lines of a script ask together.
-ghost use Rattle.std.specs.Prelude.{◌≡◌, ◌++◌, [], IfOk, OnOk, map};
+ghost use Rattle.std.specs.Prelude.{◌≡◌, ◌++◌, ◌==◌, ◌<◌, ◌^◌, [], length, filter, map, IfOk, OnOk};
 ghost use Rattle.std.specs.List.{cons_option};
 ghost use Rattle.std.specs.Option.{option_copied};
-ghost use Rattle.sx_script.specs.Plans.{plan_of, load_of, asked_of};
-ghost use Rattle.sx_script.specs.Asking.{as_line};
+ghost use Rattle.sx_model.specs.Schedules.{Line as Asked, commands_of};
+ghost use Rattle.sx_script.specs.Plans.{plan_of, load_of, asked_at, client_of};
 
-use crate::Line;
 use std::alloc::{AllocError, Global};
-use sx_journal::{Request, What};
+use sx_journal::{Command, Commands};
+use sx_lines::Line;
 use sx_lists::{Copied, List};
 use sx_log::{Load, Loads};
 use sx_ops::Spec;
+
+// How often a request is repeated where a script doesn't say it.
+const REPEATS: u8 = 8;
 
 // The rows that lines load, in order.
 pub(crate) fn loads_of(alloc: Global, lines: &[Line]) -> Result<Loads, AllocError>
@@ -47,47 +50,69 @@ pub(crate) fn change_of(lines: &[Line]) -> Option<&Spec>
     None
 }
 
-/// What a client asks on its next line.
-#[derive(Debug, Drop)]
-pub struct Asked {
-    pub client: u8,
-    pub request: Request,
-}
-
-impl Copied for Asked {
-    fn copy(&self, alloc: Global) -> Result<Self, AllocError> {
-        Ok(Asked {
-            client: self.client,
-            request: self.request.copy(alloc)?,
-        })
-    }
-}
-
-// What the clients' lines ask, in order.
-pub(crate) fn asked_of(alloc: Global, lines: &[Line]) -> Result<List<Asked>, AllocError>
-    ensures { IfOk result (λ asked. map as_line asked ≡ (plan_of lines.now).lines) }
+// How often a request that was held is repeated.
+pub(crate) fn retries_of(lines: &[Line]) -> u8
+    ensures { result ≡ (plan_of lines.now).retries }
 {
-    let mut asked = Vec::new(alloc);
     for line in lines {
-        put_asked(alloc, &mut asked, line)?;
+        if let Line::Retries { n } = line {
+            return *n;
+        }
     }
-    Ok(List::from_vec(asked))
+    REPEATS
 }
 
-// Puts what a client's line asks at the end, if it is one.
-fn put_asked(alloc: Global, asked: &mut Vec<Asked>, line: &Line) -> Result<(), AllocError>
-    ensures { OnOk result (map as_line asked.new.items ≡ map as_line asked.old.items ++ cons_option (asked_of line.now) []) }
+// What a client does, in order, each with its place from 1 among all lines.
+#[tactic(auto, using(std::proofs::lemmas::Grind::common_steps, crate::proofs::PlanLaws::commands_are))]
+pub(crate) fn commands_of(alloc: Global, lines: &[Line], n: u8) -> Result<Commands, AllocError>
+    requires { length lines.now < 2 ^ 63 }
+    ensures { IfOk result (λ commands. commands ≡ commands_of (plan_of lines.now) n) }
 {
-    if let Line::Client {
-        n,
-        what: What::Ask(request),
-    } = line
-    {
-        let request = request.copy(alloc)?;
-        asked.push(Asked {
-            client: *n,
-            request,
-        })?;
+    let mut commands = Vec::new(alloc);
+    for (index, line) in lines.iter().enumerate() {
+        put_command(alloc, &mut commands, n, index as u64 + 1, line)?;
+    }
+    Ok(List::from_vec(commands))
+}
+
+// Puts what a client does on the line at this place at the end, if it is a line of this client.
+fn put_command(
+    alloc: Global,
+    commands: &mut Vec<Command>,
+    client: u8,
+    place: u64,
+    line: &Line,
+) -> Result<(), AllocError>
+    ensures { OnOk result (commands.new.items ≡ commands.old.items ++ map (λ (l : Asked). l.command) (filter (λ (l : Asked). l.client == client) (cons_option (asked_at place line.now) []))) }
+{
+    match line {
+        Line::Client { n, what } if *n == client => {
+            let what = what.copy(alloc)?;
+            commands.push(Command { line: place, what })?;
+            Ok(())
+        }
+        _ => Ok(()),
+    }
+}
+
+// The client of each client's line, in order.
+#[tactic(auto, using(std::proofs::lemmas::Grind::common_steps, crate::proofs::PlanLaws::clients_are))]
+pub(crate) fn clients_of(alloc: Global, lines: &[Line]) -> Result<List<u8>, AllocError>
+    ensures { IfOk result (λ clients. clients ≡ map (λ (l : Asked). l.client) (plan_of lines.now).lines) }
+{
+    let mut clients = Vec::new(alloc);
+    for line in lines {
+        put_client(&mut clients, line)?;
+    }
+    Ok(List::from_vec(clients))
+}
+
+// Puts the client of a client's line at the end, if it is one.
+fn put_client(clients: &mut Vec<u8>, line: &Line) -> Result<(), AllocError>
+    ensures { OnOk result (clients.new.items ≡ clients.old.items ++ cons_option (client_of line.now) []) }
+{
+    if let Line::Client { n, what: _ } = line {
+        clients.push(*n)?;
     }
     Ok(())
 }

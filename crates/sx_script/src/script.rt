@@ -1,21 +1,23 @@
 // Scripts, and the bytes that they are read from.
-ghost use Rattle.std.specs.Prelude.{◌≡◌, ◌≤◌, ◌==◌, not, true, if◌then◌else◌, Err, Ok, Some, IfOk, length, map};
+ghost use Rattle.std.specs.Prelude.{◌≡◌, ◌≤◌, ◌==◌, Some, IfOk, length, map};
 ghost use Rattle.std.specs.List.{All};
 ghost use Rattle.std.specs.Option.{option_copied};
 ghost use Rattle.sx_lists.specs.Places.{at_place};
-ghost use Rattle.sx_script.specs.Plans.{plan_of, is_open};
+ghost use Rattle.sx_model.specs.Schedules.{Line as Asked, commands_of};
+ghost use Rattle.sx_lines.specs.Printing.{HasText};
+ghost use Rattle.sx_script.specs.Plans.{plan_of};
 ghost use Rattle.sx_script.specs.Reading.{script_read};
 ghost use Rattle.sx_script.specs.Scripts.{Reads, IsScript, IsRead};
 ghost use Rattle.sx_script.specs.Sound.{IsRunnable};
-ghost use Rattle.sx_script.specs.Asking.{as_line};
-ghost use Rattle.sx_script.specs.Printing.{HasText, script_text};
+ghost use Rattle.sx_script.specs.Printing.{script_text};
 
+use crate::ScriptFault;
 use crate::parser::Parser;
-use crate::plan::{Asked, asked_of, change_of, loads_of};
-use crate::text::next_line;
-use crate::{Line, ScriptFault};
+use crate::plan::{change_of, clients_of, commands_of, loads_of, retries_of};
 use std::alloc::{AllocError, Global};
 use std::marker::Model;
+use sx_journal::Commands;
+use sx_lines::{Line, next_line};
 use sx_lists::{Copied, List};
 use sx_log::Loads;
 use sx_ops::Spec;
@@ -30,8 +32,7 @@ pub struct Script {
 
 impl Model for Script {
     ghost use Rattle.std.specs.Prelude.{◌≡◌, List};
-    ghost use Rattle.sx_script.specs.declared.line.Line.{Line as ScriptLine};
-    ghost use Rattle.sx_script.specs.Plans.{plan_of};
+    ghost use Rattle.sx_lines.specs.declared.line.Line.{Line as ScriptLine};
     ghost use Rattle.sx_script.specs.Scripts.{IsScript};
 
     ghost Value = { List ScriptLine };
@@ -103,11 +104,25 @@ impl Script {
         change_of(self.lines.as_slice())
     }
 
-    /// What the clients' lines ask, in order.
-    pub fn asked(&self, alloc: Global) -> Result<List<Asked>, AllocError>
-        ensures { IfOk result (λ asked. map as_line asked ≡ (plan_of self.now).lines) }
+    /// How often a client repeats a request that was held: 8 times where the script doesn't say.
+    pub fn retries(&self) -> u8
+        ensures { result ≡ (plan_of self.now).retries }
     {
-        asked_of(alloc, self.lines.as_slice())
+        retries_of(self.lines.as_slice())
+    }
+
+    /// What a client does on its lines, in order, each with its place among the lines of the script.
+    pub fn commands_of(&self, alloc: Global, n: u8) -> Result<Commands, AllocError>
+        ensures { IfOk result (λ commands. commands ≡ commands_of (plan_of self.now) n) }
+    {
+        commands_of(alloc, self.lines(), n)
+    }
+
+    /// The client of each client's line, in order.
+    pub fn clients(&self, alloc: Global) -> Result<List<u8>, AllocError>
+        ensures { IfOk result (λ clients. clients ≡ map (λ (l : Asked). l.client) (plan_of self.now).lines) }
+    {
+        clients_of(alloc, self.lines.as_slice())
     }
 }
 
@@ -139,19 +154,7 @@ pub fn parse_script(alloc: Global, bytes: &[u8]) -> Result<Script, ScriptFault>
                 count += 1;
                 left = rest;
             }
-            None => return ended(parser),
+            None => return Ok(parser.into_script()),
         }
-    }
-}
-
-// The script of all lines, where no block is open.
-fn ended(parser: Parser) -> Result<Script, ScriptFault>
-    requires { not (is_open (plan_of parser)) ≡ true → IsRead parser }
-    ensures { result ≡ (if is_open (plan_of parser) then Err ScriptFault.LATER else Ok parser) }
-{
-    if parser.is_at_end() {
-        Ok(parser.into_script())
-    } else {
-        Err(ScriptFault::LATER)
     }
 }

@@ -1,48 +1,112 @@
 // Worked scripts, and scripts with the faults that people make.
 use crate::*;
 use std::alloc::{AllocError, Global};
+use std::process::Abort;
 use std::test::Fail;
-use sx_journal::What;
-use sx_lists::Copied;
+use sx_journal::Command;
+use sx_lists::{Copied, List};
 use sx_log::Load;
 use sx_ops::Spec;
-use sx_sync::Strategy;
 use sx_values::Declared;
 
 // Spelled otherwise than it is printed: a comment, an empty line, quotes that aren't needed, no last line feed.
-const ORDERS: &[u8] =
-    b"# orders\ntable t id:int* name:text note:text?\n\nrow t 1,\"Ole\",NULL\nrow t -9,\"a \"\"b\"\", c\",\"\"\nchange part t if name<>'O''Hara, \"x\"' into low_1 high_2\nc1 begin\nc1 update t 1,NULL,NULL\nc1 delete t 2\nc1 commit";
+fn orders() -> &'static [u8] {
+    b"# orders\n\
+      table t id:int* name:text note:text?\n\
+      table u a:text* b:int*\n\
+      \n\
+      row t 1,\"Ole\",NULL\n\
+      row u 1,1\n\
+      row t -9,\"a \"\"b\"\", c\",\"\"\n\
+      change part t if name<>'O''Hara, \"x\"' into low_1 high_2\n\
+      retries 3\n\
+      c8 begin\n\
+      c1 begin\n\
+      c1 update t 1,NULL,NULL\n\
+      c8 read u x,1\n\
+      c1 delete t 2\n\
+      c8 insert u NULL,2\n\
+      c1 abort\n\
+      c8 commit"
+}
 
-const ORDERS_TEXT: &[u8] =
-    b"table t id:int* name:text note:text?\nrow t 1,Ole,NULL\nrow t -9,\"a \"\"b\"\", c\",\nchange part t if name<>'O''Hara, \"x\"' into low_1 high_2\nc1 begin\nc1 update t 1,NULL,NULL\nc1 delete t 2\nc1 commit\n";
+// The same script as it is printed.
+fn orders_text() -> &'static [u8] {
+    b"table t id:int* name:text note:text?\n\
+      table u a:text* b:int*\n\
+      row t 1,Ole,NULL\n\
+      row u 1,1\n\
+      row t -9,\"a \"\"b\"\", c\",\n\
+      change part t if name<>'O''Hara, \"x\"' into low_1 high_2\n\
+      retries 3\n\
+      c8 begin\n\
+      c1 begin\n\
+      c1 update t 1,NULL,NULL\n\
+      c8 read u x,1\n\
+      c1 delete t 2\n\
+      c8 insert u NULL,2\n\
+      c1 abort\n\
+      c8 commit\n"
+}
 
-// The script that a text is.
-fn read(alloc: Global, text: &[u8]) -> Result<Script, Fail> {
-    Ok(parse_script(alloc, text)?)
+fn read_orders(alloc: Global) -> Result<Script, ScriptFault> {
+    parse_script(alloc, orders())
+}
+
+// What is printed of the script that a text is.
+fn printed(alloc: Global, text: &[u8]) -> Result<List<u8>, ScriptFault> {
+    let script = parse_script(alloc, text)?;
+    Ok(print_script(alloc, &script)?)
+}
+
+fn assert_printed(
+    rt: &impl Abort,
+    alloc: Global,
+    text: &[u8],
+    wanted: &[u8],
+) -> Result<(), ScriptFault> {
+    let printed = printed(alloc, text)?;
+    assert_eq!(rt; printed.as_slice(), wanted);
+    Ok(())
 }
 
 #[test]
-fn a_script_is_read_and_printed(rt: HostRuntime) -> Result<(), Fail> {
-    let alloc = rt.alloc();
-    let script = read(alloc, ORDERS)?;
-    let text = print_script(alloc, &script)?;
-    assert_eq!(rt; text.as_slice(), ORDERS_TEXT);
-    Ok(())
+fn a_script_is_read_and_printed(rt: HostRuntime) -> Result<(), ScriptFault> {
+    assert_printed(&rt, rt.alloc(), orders(), orders_text())
+}
+
+#[test]
+fn what_is_printed_is_read_again(rt: HostRuntime) -> Result<(), ScriptFault> {
+    assert_printed(&rt, rt.alloc(), orders_text(), orders_text())
+}
+
+fn put_copy(alloc: Global, out: &mut Vec<u8>, script: &Script) -> Result<(), AllocError> {
+    let copied = script.copy(alloc)?;
+    put_script(alloc, out, &copied)
+}
+
+// Puts what is printed of a copy of the script that a text is at the end.
+fn put_copied(alloc: Global, out: &mut Vec<u8>, text: &[u8]) -> Result<(), ScriptFault> {
+    let script = parse_script(alloc, text)?;
+    Ok(put_copy(alloc, out, &script)?)
+}
+
+fn assert_text(rt: &impl Abort, text: &[u8], wanted: &[u8]) {
+    assert_eq!(rt; text, wanted);
 }
 
 #[test]
 fn a_copy_is_put_behind_other_bytes(rt: HostRuntime) -> Result<(), Fail> {
     let alloc = rt.alloc();
-    let script = read(alloc, b"c1 begin\n\nc1 commit")?;
     let mut out = Vec::from_slice(alloc, b"script\n")?;
-    put_script(alloc, &mut out, &script.copy(alloc)?)?;
-    assert_eq!(rt; out.as_slice(), b"script\nc1 begin\nc1 commit\n".as_slice());
+    put_copied(alloc, &mut out, b"c1 begin\n\nc1 commit")?;
+    assert_text(&rt, &out, b"script\nc1 begin\nc1 commit\n");
     Ok(())
 }
 
 // Puts the text of a line that has one and a line feed at the end.
 fn put_ended(alloc: Global, out: &mut Vec<u8>, line: &Line) -> Result<(), AllocError> {
-    match &line.copy(alloc)? {
+    match line {
         Line::Change {
             spec: Spec::Join { .. } | Spec::Split { .. } | Spec::Union { .. },
         } => {}
@@ -57,29 +121,31 @@ fn put_table(alloc: Global, out: &mut Vec<u8>, table: &Declared) -> Result<(), A
     put_ended(alloc, out, &Line::Table { name, schema })
 }
 
-fn tables_text(alloc: Global, tables: &[Declared]) -> Result<Vec<u8>, AllocError> {
-    let mut out = Vec::new(alloc);
+fn put_tables(alloc: Global, out: &mut Vec<u8>, tables: &[Declared]) -> Result<(), AllocError> {
     for table in tables {
-        put_table(alloc, &mut out, table)?;
+        put_table(alloc, out, table)?;
     }
-    Ok(out)
+    Ok(())
 }
 
-fn tables_of(alloc: Global, script: &Script) -> Result<Vec<u8>, AllocError> {
+fn put_catalog(alloc: Global, out: &mut Vec<u8>, script: &Script) -> Result<(), AllocError> {
     let catalog = script.catalog(alloc)?;
-    tables_text(alloc, catalog.tables())
+    put_tables(alloc, out, catalog.tables())
 }
 
 #[test]
 fn tables_are_declared(rt: HostRuntime) -> Result<(), Fail> {
     let alloc = rt.alloc();
-    let script = read(alloc, ORDERS)?;
-    let text = tables_of(alloc, &script)?;
-    assert_eq!(rt;
-        text.as_slice(),
-        b"table t id:int* name:text note:text?\n".as_slice()
-    );
+    let script = read_orders(alloc)?;
+    let mut out = Vec::new(alloc);
+    put_catalog(alloc, &mut out, &script)?;
+    assert_text(&rt, &out, tables_text());
     Ok(())
+}
+
+fn tables_text() -> &'static [u8] {
+    b"table t id:int* name:text note:text?\n\
+      table u a:text* b:int*\n"
 }
 
 fn put_load(alloc: Global, out: &mut Vec<u8>, load: &Load) -> Result<(), AllocError> {
@@ -88,119 +154,247 @@ fn put_load(alloc: Global, out: &mut Vec<u8>, load: &Load) -> Result<(), AllocEr
     put_ended(alloc, out, &Line::Row { table, row })
 }
 
-fn loads_text(alloc: Global, loads: &[Load]) -> Result<Vec<u8>, AllocError> {
-    let mut out = Vec::new(alloc);
+fn put_loads(alloc: Global, out: &mut Vec<u8>, loads: &[Load]) -> Result<(), AllocError> {
     for load in loads {
-        put_load(alloc, &mut out, load)?;
+        put_load(alloc, out, load)?;
     }
-    Ok(out)
+    Ok(())
 }
 
-fn loads_of(alloc: Global, script: &Script) -> Result<Vec<u8>, AllocError> {
+fn put_rows(alloc: Global, out: &mut Vec<u8>, script: &Script) -> Result<(), AllocError> {
     let loads = script.loads(alloc)?;
-    loads_text(alloc, loads.as_slice())
+    put_loads(alloc, out, loads.as_slice())
 }
 
 #[test]
 fn rows_are_loaded(rt: HostRuntime) -> Result<(), Fail> {
     let alloc = rt.alloc();
-    let script = read(alloc, ORDERS)?;
-    let text = loads_of(alloc, &script)?;
-    assert_eq!(rt;
-        text.as_slice(),
-        b"row t 1,Ole,NULL\nrow t -9,\"a \"\"b\"\", c\",\n".as_slice()
-    );
+    let script = read_orders(alloc)?;
+    let mut out = Vec::new(alloc);
+    put_rows(alloc, &mut out, &script)?;
+    assert_text(&rt, &out, rows_text());
     Ok(())
 }
 
-fn put_asked(alloc: Global, out: &mut Vec<u8>, asked: &Asked) -> Result<(), AllocError> {
-    let Asked { client, request } = asked.copy(alloc)?;
-    let what = What::Ask(request);
-    put_ended(alloc, out, &Line::Client { n: client, what })
+fn rows_text() -> &'static [u8] {
+    b"row t 1,Ole,NULL\n\
+      row u 1,1\n\
+      row t -9,\"a \"\"b\"\", c\",\n"
 }
 
-fn asked_text(alloc: Global, asked: &[Asked]) -> Result<Vec<u8>, AllocError> {
-    let mut out = Vec::new(alloc);
-    for one in asked {
-        put_asked(alloc, &mut out, one)?;
+// Puts what a client does at the end, as if it were client 8.
+fn put_command(alloc: Global, out: &mut Vec<u8>, command: &Command) -> Result<(), AllocError> {
+    let what = command.what.copy(alloc)?;
+    put_ended(alloc, out, &Line::Client { n: 8, what })
+}
+
+fn put_commands(alloc: Global, out: &mut Vec<u8>, commands: &[Command]) -> Result<(), AllocError> {
+    for command in commands {
+        put_command(alloc, out, command)?;
     }
-    Ok(out)
-}
-
-fn asked_of(alloc: Global, script: &Script) -> Result<Vec<u8>, AllocError> {
-    let asked = script.asked(alloc)?;
-    asked_text(alloc, asked.as_slice())
+    Ok(())
 }
 
 #[test]
-fn requests_are_asked(rt: HostRuntime) -> Result<(), Fail> {
+fn a_client_has_the_commands_of_its_lines(rt: HostRuntime) -> Result<(), Fail> {
     let alloc = rt.alloc();
-    let script = read(alloc, ORDERS)?;
-    let text = asked_of(alloc, &script)?;
-    assert_eq!(rt;
-        text.as_slice(),
-        b"c1 begin\nc1 update t 1,NULL,NULL\nc1 delete t 2\nc1 commit\n".as_slice()
-    );
+    let commands = read_orders(alloc)?.commands_of(alloc, 8)?;
+    let mut out = Vec::new(alloc);
+    put_commands(alloc, &mut out, commands.as_slice())?;
+    assert_text(&rt, &out, commands_text());
     Ok(())
 }
 
-fn change_text(alloc: Global, change: Option<&Spec>) -> Result<Vec<u8>, AllocError> {
-    let mut out = Vec::new(alloc);
-    if let Some(spec) = change {
-        let spec = spec.copy(alloc)?;
-        put_ended(alloc, &mut out, &Line::Change { spec })?;
+fn commands_text() -> &'static [u8] {
+    b"c8 begin\n\
+      c8 read u x,1\n\
+      c8 insert u NULL,2\n\
+      c8 commit\n"
+}
+
+// Puts the places of a client's lines at the end.
+fn put_places(places: &mut Vec<u64>, commands: &[Command]) -> Result<(), AllocError> {
+    for command in commands {
+        places.push(command.line)?;
     }
-    Ok(out)
+    Ok(())
+}
+
+// Comments and empty lines have no place.
+#[test]
+fn commands_have_the_places_of_their_lines(rt: HostRuntime) -> Result<(), Fail> {
+    let alloc = rt.alloc();
+    let commands = read_orders(alloc)?.commands_of(alloc, 8)?;
+    let mut places = Vec::new(alloc);
+    put_places(&mut places, commands.as_slice())?;
+    assert_eq!(rt; places.as_slice(), [8, 11, 13, 15].as_slice());
+    Ok(())
+}
+
+#[test]
+fn a_client_without_lines_has_no_commands(rt: HostRuntime) -> Result<(), Fail> {
+    let alloc = rt.alloc();
+    let commands = read_orders(alloc)?.commands_of(alloc, 2)?;
+    assert!(rt; commands.is_empty());
+    Ok(())
+}
+
+#[test]
+fn each_client_line_has_its_client(rt: HostRuntime) -> Result<(), Fail> {
+    let alloc = rt.alloc();
+    let clients = read_orders(alloc)?.clients(alloc)?;
+    assert_eq!(rt; clients.as_slice(), [8, 1, 1, 8, 1, 8, 1, 8].as_slice());
+    Ok(())
+}
+
+fn assert_retries(rt: &impl Abort, alloc: Global, text: &[u8], n: u8) -> Result<(), ScriptFault> {
+    let script = parse_script(alloc, text)?;
+    assert_eq!(rt; script.retries(), n);
+    Ok(())
+}
+
+#[test]
+fn repeats_are_as_many_as_said(rt: HostRuntime) -> Result<(), ScriptFault> {
+    assert_retries(&rt, rt.alloc(), orders(), 3)
+}
+
+#[test]
+fn there_may_be_no_repeats(rt: HostRuntime) -> Result<(), ScriptFault> {
+    assert_retries(&rt, rt.alloc(), b"retries 0", 0)
+}
+
+#[test]
+fn repeats_are_eight_where_nothing_is_said(rt: HostRuntime) -> Result<(), ScriptFault> {
+    assert_retries(&rt, rt.alloc(), b"c1 begin", 8)
+}
+
+fn put_change(alloc: Global, out: &mut Vec<u8>, script: &Script) -> Result<(), AllocError> {
+    match script.change() {
+        Some(spec) => put_spec(alloc, out, spec),
+        None => Ok(()),
+    }
+}
+
+fn put_spec(alloc: Global, out: &mut Vec<u8>, spec: &Spec) -> Result<(), AllocError> {
+    let spec = spec.copy(alloc)?;
+    put_ended(alloc, out, &Line::Change { spec })
 }
 
 #[test]
 fn the_change_is_found(rt: HostRuntime) -> Result<(), Fail> {
     let alloc = rt.alloc();
-    let script = read(alloc, b"table t id:int*\nchange part t if id>=0 into a b")?;
-    let text = change_text(alloc, script.change())?;
-    assert_eq!(rt;
-        text.as_slice(),
-        b"change part t if id>=0 into a b\n".as_slice()
-    );
-    Ok(())
-}
-
-fn line_text(alloc: Global, line: Option<&Line>) -> Result<Vec<u8>, AllocError> {
+    let script = read_orders(alloc)?;
     let mut out = Vec::new(alloc);
-    if let Some(line) = line {
-        put_ended(alloc, &mut out, line)?;
+    put_change(alloc, &mut out, &script)?;
+    assert_text(&rt, &out, change_text());
+    Ok(())
+}
+
+fn change_text() -> &'static [u8] {
+    b"change part t if name<>'O''Hara, \"x\"' into low_1 high_2\n"
+}
+
+fn put_at(alloc: Global, out: &mut Vec<u8>, script: &Script, place: u64) -> Result<(), AllocError> {
+    match script.at(place) {
+        Some(line) => put_ended(alloc, out, line),
+        None => Ok(()),
     }
-    Ok(out)
 }
 
 #[test]
-fn lines_have_places(rt: HostRuntime) -> Result<(), Fail> {
+fn a_line_is_found_at_its_place(rt: HostRuntime) -> Result<(), Fail> {
     let alloc = rt.alloc();
-    let script = read(alloc, ORDERS)?;
-    let text = line_text(alloc, script.at(6))?;
-    assert_eq!(rt; text.as_slice(), b"c1 update t 1,NULL,NULL\n".as_slice());
-    assert_eq!(rt; script.len(), 8);
-    assert!(rt; script.at(9).is_none());
-    Ok(())
-}
-
-// No script has lines of these forms yet.
-#[test]
-fn strategies_are_printed(rt: HostRuntime) -> Result<(), Fail> {
-    let alloc = rt.alloc();
-    let strategy = Strategy::NonBlockingAbort;
-    let line = Line::Strategy { strategy };
-    let text = line_text(alloc, Some(&line))?;
-    assert_eq!(rt; text.as_slice(), b"strategy abort\n".as_slice());
+    let script = read_orders(alloc)?;
+    let mut out = Vec::new(alloc);
+    put_at(alloc, &mut out, &script, 10)?;
+    assert_text(&rt, &out, b"c1 update t 1,NULL,NULL\n");
     Ok(())
 }
 
 #[test]
-fn steps_are_printed(rt: HostRuntime) -> Result<(), Fail> {
-    let alloc = rt.alloc();
-    let line = Line::Pace(PropLine::Scan { n: 64 });
-    let text = line_text(alloc, Some(&line))?;
-    assert_eq!(rt; text.as_slice(), b"p scan 64\n".as_slice());
+fn the_last_place_is_the_number_of_lines(rt: HostRuntime) -> Result<(), ScriptFault> {
+    let script = read_orders(rt.alloc())?;
+    assert_eq!(rt; script.len(), 15);
+    assert!(rt; script.at(15).is_some());
+    assert!(rt; script.at(16).is_none());
+    assert!(rt; !script.is_empty());
+    Ok(())
+}
+
+fn assert_read(rt: &impl Abort, alloc: Global, text: &[u8]) {
+    let read = parse_script(alloc, text);
+    assert!(rt; read.is_ok());
+}
+
+#[test]
+fn an_empty_text_is_a_script(rt: HostRuntime) {
+    assert_read(&rt, rt.alloc(), b"");
+}
+
+#[test]
+fn a_row_may_stand_behind_the_change(rt: HostRuntime) {
+    assert_read(
+        &rt,
+        rt.alloc(),
+        b"table t id:int*\nchange part t if id>=0 into a b\nrow t 1",
+    );
+}
+
+#[test]
+fn repeats_may_stand_behind_the_change(rt: HostRuntime) {
+    assert_read(
+        &rt,
+        rt.alloc(),
+        b"table t id:int*\nchange part t if id>=0 into a b\nretries 8\nc1 begin",
+    );
+}
+
+#[test]
+fn a_clients_lines_may_stand_in_any_order(rt: HostRuntime) {
+    assert_read(
+        &rt,
+        rt.alloc(),
+        b"table t id:int*\nc3 commit\nc3 insert t 1\nc3 abort\nc4 begin",
+    );
+}
+
+// Declares sixteen tables, and goes on by these lines.
+fn with_sixteen_tables(alloc: Global, rest: &[u8]) -> Result<Vec<u8>, AllocError> {
+    let mut text = Vec::from_slice(alloc, sixteen_tables())?;
+    text.extend_from_slice(rest)?;
+    Ok(text)
+}
+
+fn sixteen_tables() -> &'static [u8] {
+    b"table a k:int*\n\
+      table b k:int*\n\
+      table c k:int*\n\
+      table d k:int*\n\
+      table e k:int*\n\
+      table f k:int*\n\
+      table g k:int*\n\
+      table h k:int*\n\
+      table i k:int*\n\
+      table j k:int*\n\
+      table k k:int*\n\
+      table l k:int*\n\
+      table m k:int*\n\
+      table n k:int*\n\
+      table o k:int*\n\
+      table p k:int*\n"
+}
+
+#[test]
+fn sixteen_tables_may_have_rows_of_one_key(rt: HostRuntime) -> Result<(), AllocError> {
+    let text = with_sixteen_tables(rt.alloc(), b"row a 1\nrow p 1\nrow a 2")?;
+    assert_read(&rt, rt.alloc(), &text);
+    Ok(())
+}
+
+#[test]
+fn a_seventeenth_table_is_refused(rt: HostRuntime) -> Result<(), AllocError> {
+    let text = with_sixteen_tables(rt.alloc(), b"table q k:int*")?;
+    assert_refused(&rt, rt.alloc(), &text);
     Ok(())
 }
 
@@ -209,41 +403,178 @@ const LATER: ScriptFault = ScriptFault::Bad {
     cause: ScriptCause::Later,
 };
 
-#[test]
-fn faulty_scripts_are_refused(rt: HostRuntime) {
-    for text in [
-        // A field is missing, is one too many, or isn't a number.
-        "table t id:int* q:int?\nrow t 1",
-        "table t id:int* q:int?\nrow t 1,2,3",
-        "table t id:int* q:int?\nrow t 1,05",
-        // A Null where none may be, and a key that stands twice.
-        "table t id:int* q:int\nrow t 1,NULL",
-        "table t id:int* q:int\nrow t 1,2\nrow t 1,3",
-        // No key, a second table, and a table that isn't there.
-        "table t id:int",
-        "table t id:int*\ntable u id:int*",
-        "table t id:int*\nrow u 1",
-        // A constant of another kind, and a row behind a client's line.
-        "table t id:int*\nchange part t if id<'a' into low high",
-        "table t id:int*\nc1 begin\nrow t 1\nc1 commit",
-        // A second client, a block that stays open, and a write outside of one.
-        "c2 begin\nc2 commit",
-        "c1 begin",
-        "table t id:int*\nc1 insert t 1",
-        // A byte that isn't printable.
-        "# a tab\there",
-    ] {
-        let fault = parse_script(rt.alloc(), text.as_bytes()).err();
-        assert_eq!(rt; fault, Some(LATER), "in {text:?}");
-    }
+fn assert_refused(rt: &impl Abort, alloc: Global, text: &[u8]) {
+    let fault = parse_script(alloc, text).err();
+    assert_eq!(rt; fault, Some(LATER));
 }
 
 #[test]
-fn faults_are_copied(rt: HostRuntime) -> Result<(), Fail> {
-    let alloc = rt.alloc();
-    for fault in [ScriptFault::Memory, LATER] {
-        assert_eq!(rt; fault.copy(alloc)?, fault);
-    }
-    assert_eq!(rt; ScriptCause::Key.copy(alloc)?, ScriptCause::Key);
+fn a_row_without_its_last_field_is_refused(rt: HostRuntime) {
+    assert_refused(&rt, rt.alloc(), b"table t id:int* q:int?\nrow t 1");
+}
+
+#[test]
+fn a_row_with_a_field_too_many_is_refused(rt: HostRuntime) {
+    assert_refused(&rt, rt.alloc(), b"table t id:int* q:int?\nrow t 1,2,3");
+}
+
+#[test]
+fn a_number_with_a_leading_zero_is_refused(rt: HostRuntime) {
+    assert_refused(&rt, rt.alloc(), b"table t id:int* q:int?\nrow t 1,05");
+}
+
+#[test]
+fn a_null_where_none_may_be_is_refused(rt: HostRuntime) {
+    assert_refused(&rt, rt.alloc(), b"table t id:int* q:int\nrow t 1,NULL");
+}
+
+#[test]
+fn a_key_that_stands_twice_is_refused(rt: HostRuntime) {
+    assert_refused(
+        &rt,
+        rt.alloc(),
+        b"table t id:int* q:int\nrow t 1,2\nrow t 1,3",
+    );
+}
+
+#[test]
+fn a_key_that_stands_twice_with_another_table_between_is_refused(rt: HostRuntime) {
+    assert_refused(
+        &rt,
+        rt.alloc(),
+        b"table t id:int*\nrow t 1\ntable u id:int*\nrow u 1\nrow t 1",
+    );
+}
+
+#[test]
+fn a_table_without_a_key_is_refused(rt: HostRuntime) {
+    assert_refused(&rt, rt.alloc(), b"table t id:int");
+}
+
+#[test]
+fn a_table_that_is_declared_twice_is_refused(rt: HostRuntime) {
+    assert_refused(&rt, rt.alloc(), b"table t id:int*\ntable t id:int*");
+}
+
+#[test]
+fn a_table_behind_the_change_is_refused(rt: HostRuntime) {
+    assert_refused(
+        &rt,
+        rt.alloc(),
+        b"table t id:int*\nchange part t if id>=0 into a b\ntable u id:int*",
+    );
+}
+
+#[test]
+fn a_table_behind_a_clients_line_is_refused(rt: HostRuntime) {
+    assert_refused(&rt, rt.alloc(), b"c1 begin\ntable t id:int*");
+}
+
+#[test]
+fn a_row_of_no_table_is_refused(rt: HostRuntime) {
+    assert_refused(&rt, rt.alloc(), b"table t id:int*\nrow u 1");
+}
+
+#[test]
+fn a_row_before_its_table_is_refused(rt: HostRuntime) {
+    assert_refused(&rt, rt.alloc(), b"row t 1\ntable t id:int*");
+}
+
+#[test]
+fn a_read_of_no_table_is_refused(rt: HostRuntime) {
+    assert_refused(&rt, rt.alloc(), b"c1 read t 1");
+}
+
+#[test]
+fn a_constant_of_another_kind_is_refused(rt: HostRuntime) {
+    assert_refused(
+        &rt,
+        rt.alloc(),
+        b"table t id:int*\nchange part t if id<'a' into low high",
+    );
+}
+
+#[test]
+fn a_second_change_is_refused(rt: HostRuntime) {
+    assert_refused(
+        &rt,
+        rt.alloc(),
+        b"table t id:int*\nchange part t if id<1 into a b\nchange part t if id<2 into c d",
+    );
+}
+
+#[test]
+fn a_change_behind_a_clients_line_is_refused(rt: HostRuntime) {
+    assert_refused(
+        &rt,
+        rt.alloc(),
+        b"table t id:int*\nc1 begin\nchange part t if id<1 into a b",
+    );
+}
+
+#[test]
+fn a_row_behind_a_clients_line_is_refused(rt: HostRuntime) {
+    assert_refused(
+        &rt,
+        rt.alloc(),
+        b"table t id:int*\nc1 begin\nrow t 1\nc1 commit",
+    );
+}
+
+#[test]
+fn nine_repeats_are_refused(rt: HostRuntime) {
+    assert_refused(&rt, rt.alloc(), b"retries 9");
+}
+
+#[test]
+fn repeats_that_are_said_twice_are_refused(rt: HostRuntime) {
+    assert_refused(&rt, rt.alloc(), b"retries 1\nretries 1");
+}
+
+#[test]
+fn repeats_behind_a_clients_line_are_refused(rt: HostRuntime) {
+    assert_refused(&rt, rt.alloc(), b"c1 begin\nretries 1");
+}
+
+#[test]
+fn a_client_0_is_refused(rt: HostRuntime) {
+    assert_refused(&rt, rt.alloc(), b"c0 begin");
+}
+
+#[test]
+fn a_client_9_is_refused(rt: HostRuntime) {
+    assert_refused(&rt, rt.alloc(), b"c9 begin");
+}
+
+#[test]
+fn a_key_of_another_width_is_refused(rt: HostRuntime) {
+    assert_refused(&rt, rt.alloc(), b"table t id:int*\nc1 read t 1,2");
+}
+
+#[test]
+fn a_byte_that_is_not_printable_is_refused(rt: HostRuntime) {
+    assert_refused(&rt, rt.alloc(), b"# a tab\there");
+}
+
+fn assert_copied(rt: &impl Abort, alloc: Global, fault: ScriptFault) -> Result<(), AllocError> {
+    let copied = fault.copy(alloc)?;
+    assert_eq!(rt; copied, fault);
+    Ok(())
+}
+
+#[test]
+fn want_of_memory_is_copied(rt: HostRuntime) -> Result<(), AllocError> {
+    assert_copied(&rt, rt.alloc(), ScriptFault::Memory)
+}
+
+#[test]
+fn a_fault_of_the_whole_is_copied(rt: HostRuntime) -> Result<(), AllocError> {
+    assert_copied(&rt, rt.alloc(), LATER)
+}
+
+#[test]
+fn causes_are_copied(rt: HostRuntime) -> Result<(), AllocError> {
+    let copied = ScriptCause::Key.copy(rt.alloc())?;
+    assert_eq!(rt; copied, ScriptCause::Key);
     Ok(())
 }

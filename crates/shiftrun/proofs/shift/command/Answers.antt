@@ -1,7 +1,13 @@
 use Rattle.std.proofs.Common.{map, string_bytes, refl, subst}
 use Rattle.shiftrun.specs.Endings.{Outside, StepEnds}
-use Rattle.shiftrun.proofs.EndLaws.{past_read, long_end, step_end}
+use Rattle.shiftrun.proofs.EndLaws.{words_end, past_read, long_end, step_end}
 use Rattle.shiftrun.proofs.shift.command.Goals as goal
+
+pub returns-then-not-is_step : goal.returns-then-not-is_step
+returns-then-not-is_step g c =
+    let before : Outside = record { left = g.S.Source.left c.args.source.now; unread = g.S.Source.faults c.args.source.now; written = g.K.Sink.written c.args.sink.now; unwritten = g.K.Sink.faults c.args.sink.now } in
+    let after : Outside = record { left = g.S.Source.left c.args.source.now; unread = g.S.Source.faults c.args.source.now; written = g.K.Sink.written c.put.new.sink; unwritten = g.K.Sink.faults c.put.new.sink } in
+    words_end (map string_bytes c.args.words.now) before after c.args.kept.now c.put.result (λ step. (let told = c.if-not-is_step.ensures.1 step in cc)) refl c.requires c.put.ensures
 
 pub returns-in-Ok : goal.returns-in-Ok
 returns-in-Ok g c =

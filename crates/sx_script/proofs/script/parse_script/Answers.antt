@@ -1,10 +1,28 @@
-use Rattle.std.proofs.Common.{◌≡◌, ◌≤◌, ◌+◌, ◌++◌, ℕ, [], List, Option, Some, None, length, not, refl, sym, ◌∙◌, ap, arith}
-use Rattle.sx_script.specs.Lines.{text_lines, next_line, when}
-use Rattle.sx_script.specs.Plans.{plan_of, is_open}
-use Rattle.sx_script.specs.Reading.{script_read}
-use Rattle.sx_script.proofs.PartLaws.{no_line}
-use Rattle.sx_script.proofs.ReadLaws.{read_further, read_refused, count_further, read_end, script_few, script_none, read_from}
+use Rattle.std.proofs.Common.{◌≡◌, ◌≤◌, ◌+◌, ℕ, List, [], Some, None, length, refl, sym, ◌∙◌, ap, arith}
+use Rattle.sx_lines.specs.declared.line.Line.{Line}
+use Rattle.sx_lines.specs.Lines.{text_lines, next_line}
+use Rattle.sx_lines.proofs.PartLaws.{no_line}
+use Rattle.sx_script.specs.Reading.{lines_read, script_read}
+use Rattle.sx_script.proofs.ReadLaws.{whole, read_further, read_refused, count_further, read_end, script_few, script_none}
 use Rattle.sx_script.proofs.script.parse_script.Goals as goal
+
+whole_read : (bytes : List ℕ) (left : List ℕ) (sofar : List Line) (count : ℕ) → next_line left ≡ None → whole sofar (lines_read sofar (text_lines left)) ≡ lines_read [] (text_lines bytes)
+    → count + length (text_lines left) ≡ length (text_lines bytes) → count ≤ 20000 → script_read bytes ≡ Some sofar
+whole_read bytes left sofar count next read counted few =
+    let none : length (text_lines left) ≡ 0 = ap length (no_line left next) in
+    let short : length (text_lines bytes) ≤ 20000 = omega arith in
+    script_few bytes short ∙ sym read ∙ read_end sofar left next
+
+pub into_script-requires : goal.into_script-requires
+into_script-requires c =
+    let i = c.loop-text.invariant in
+    record { bytes = c.args.bytes.now; read = whole_read c.args.bytes.now c.loop-text.left.now c.loop-text.parser c.loop-text.count (sym c.in-None.ensures.line) i.read i.counted i.few }
+
+pub returns-in-None : goal.returns-in-None
+returns-in-None c =
+    let i = c.loop-text.invariant in
+    let read = whole_read c.args.bytes.now c.loop-text.left.now c.loop-text.parser c.loop-text.count (sym c.in-None.ensures.line) i.read i.counted i.few in
+    read ∙ ap Some (sym c.into_script.ensures)
 
 pub returns-in-None-2 : goal.returns-in-None-2
 returns-in-None-2 c =
@@ -21,12 +39,3 @@ loop-text-preserved c =
       counted = omega arith;
       few = omega arith;
     }
-
-pub ended-requires : goal.ended-requires
-ended-requires c closed =
-    let next : next_line c.loop-text.left.now ≡ None = sym c.in-None.ensures.line in
-    let none : length (text_lines c.loop-text.left.now) ≡ 0 = ap length (no_line c.loop-text.left.now next) in
-    let few : length (text_lines c.args.bytes.now) ≤ 20000 = omega arith in
-    let read : script_read c.args.bytes.now ≡ when (not (is_open (plan_of c.loop-text.parser))) c.loop-text.parser =
-    script_few c.args.bytes.now few ∙ sym c.loop-text.invariant.read ∙ read_end c.loop-text.parser c.loop-text.left.now next in
-    read_from c.loop-text.parser c.args.bytes.now read closed

@@ -1,5 +1,5 @@
 use Rattle.std.proofs.Common.{◌≡◌, ◌≤◌, ◌+◌, [], length}
-use Rattle.sx_script.specs.Lines.{text_lines}
+use Rattle.sx_lines.specs.Lines.{text_lines}
 use Rattle.sx_script.specs.Reading.{lines_read}
 use Rattle.sx_script.proofs.ReadLaws.{whole}
 use Rattle.sx_script.proofs.script.parse_script.Given as goal

@@ -1,32 +1,53 @@
-use Rattle.std.proofs.Common.{◌∷◌, ◌∙◌, ap, refl, length, arith}
-use Rattle.sx_journal.specs.declared.entry.Event.TheVariants.{Client}
+use Rattle.std.proofs.Common.{◌≤◌, ◌∙◌, length, ap, refl, arith}
 use Rattle.sx_journal.specs.declared.entry.Request.TheVariants as request
-use Rattle.sx_journal.specs.declared.entry.Reply.TheVariants.{Committed}
-use Rattle.sx_log.specs.declared.record.Body.TheVariants as body
-use Rattle.sx_core.proofs.TurnLemmas.{client_entry, kept-committed, commit-answered, turned, opened, opened-more, grown_kept, next-of}
+use Rattle.sx_journal.specs.declared.entry.Reply.TheVariants as reply
+use Rattle.sx_core.proofs.TurnLemmas.{fields, Holds, live_there, ending_there, client_right}
+use Rattle.sx_core.proofs.ClientLemmas.{Beside, fewer_there, committed_took}
 use Rattle.sx_core.proofs.machine.Core.commit.Goals as goal
 
-pub invariant_of-self-2 : goal.invariant_of-self-2
-invariant_of-self-2 c =
+pub commit-lsn-requires : goal.commit-lsn-requires
+commit-lsn-requires c =
     let i = c.self.inside in
-    let grown = c.append-lsn.ensures.item ∙ ap (λ l. record { txn = c.args.txn; body = body.Commit } ∷ l) c.reserve-2.ensures.items in
-    let longer = c.append.ensures.item ∙ ap (λ l. client_entry c.args.actor request.Commit (Committed c.append-lsn.result) ∷ l) c.reserve.ensures.items in
-    grown_kept i.catalog i.loads c.append.new.self.newest i.log.newest c.append-lsn.new.self.newest _ i.tables i.new_tables _ i.begun i.phase i.spec i.cursor c.self.invariant.0 grown
-    (kept-committed (opened i.catalog i.loads i.log.newest) i.journal.newest _ i.log.newest c.append-lsn.new.self.newest i.tables i.new_tables i.living i.begun i.phase i.spec i.cursor c.args.self.now c.args.actor c.args.txn c.append-lsn.result
-    (record { kept = c.self.invariant.1; view = c.self.view_is; client = c.requires.actor; idle = c.requires.idle; room = c.requires.room })
-    grown c.append-lsn.ensures.place longer c.requires.inside)
+    let f = fields i.manager i.journal.spare i.clients.newest i.new_tables i.phase i.spec i.cursor in
+    let holds : Holds i.catalog i.loads i.journal.newest f c.args.self.now = record { within = c.self.invariant.0; kept = c.self.invariant.1; view = c.self.view_is } in
+    record {
+      live = live_there i.catalog i.loads i.journal.newest f c.args.self.now c.args.actor c.args.txn holds c.requires.inside.inside;
+      resting = ending_there i.catalog i.loads i.journal.newest f c.args.self.now c.args.actor c.args.txn holds c.requires.inside.inside ∙ c.requires.inside.resting;
+    }
 
-pub returns : goal.returns
-returns c =
+pub append-requires : goal.append-requires
+append-requires c =
     let i = c.self.inside in
-    let grown = c.append-lsn.ensures.item ∙ ap (λ l. record { txn = c.args.txn; body = body.Commit } ∷ l) c.reserve-2.ensures.items in
-    let longer = c.append.ensures.item ∙ ap (λ l. client_entry c.args.actor request.Commit (Committed c.append-lsn.result) ∷ l) c.reserve.ensures.items in (
-      commit-answered c.args.self.now.opening c.args.self.now.past c.args.actor c.args.txn c.append-lsn.result c.requires.inside
-          (next-of (opened i.catalog i.loads i.log.newest) i.journal.newest i.log.newest i.tables i.new_tables i.living i.begun i.phase i.spec i.cursor c.args.self.now c.append-lsn.result c.self.invariant.1 c.self.view_is
-          (c.append-lsn.ensures.place ∙ ap length grown ∙ omega arith)),
-      turned (opened i.catalog i.loads i.log.newest) _ i.journal.newest c.append.new.self.newest c.append-lsn.new.self.newest i.tables i.new_tables _ i.begun i.phase i.spec i.cursor c.args.self.now c.args.actor (Client request.Commit) (Committed c.append-lsn.result) (Committed c.append-lsn.result)
-          c.self.view_is (opened-more i.catalog i.loads i.log.newest c.append-lsn.new.self.newest _ c.self.invariant.0 grown) longer refl
-          (kept-committed (opened i.catalog i.loads i.log.newest) i.journal.newest _ i.log.newest c.append-lsn.new.self.newest i.tables i.new_tables i.living i.begun i.phase i.spec i.cursor c.args.self.now c.args.actor c.args.txn c.append-lsn.result
-          (record { kept = c.self.invariant.1; view = c.self.view_is; client = c.requires.actor; idle = c.requires.idle; room = c.requires.room })
-          grown c.append-lsn.ensures.place longer c.requires.inside),
-    )
+    let f = fields i.manager i.journal.spare i.clients.newest i.new_tables i.phase i.spec i.cursor in
+    let holds : Holds i.catalog i.loads i.journal.newest f c.args.self.now = record { within = c.self.invariant.0; kept = c.self.invariant.1; view = c.self.view_is } in
+    let fewer = fewer_there i.catalog i.loads i.journal.newest f c.args.self.now c.args.actor c.args.txn holds c.requires.inside.inside in
+    let spare = c.self.invariant.1.room in
+    omega arith
+
+pub invariant_of-self : goal.invariant_of-self
+invariant_of-self c =
+    let i = c.self.inside in
+    let f = fields i.manager i.journal.spare i.clients.newest i.new_tables i.phase i.spec i.cursor in
+    let holds : Holds i.catalog i.loads i.journal.newest f c.args.self.now = record { within = c.self.invariant.0; kept = c.self.invariant.1; view = c.self.view_is } in
+    let g = fields c.commit-lsn.new.self c.append.new.self.spare c.remove.new.self.newest i.new_tables i.phase i.spec i.cursor in
+    let fewer = fewer_there i.catalog i.loads i.journal.newest f c.args.self.now c.args.actor c.args.txn holds c.requires.inside.inside in
+    let counted = ap length c.remove.ensures in
+    let spare = c.self.invariant.1.room in
+    let room : length c.remove.new.self.newest ≤ c.append.new.self.spare = omega (arith, c.append.ensures.room) in
+    let beside : Beside f g = record { new_tables = refl; now = refl; room = room } in
+    let t = committed_took i.catalog i.loads i.journal.newest c.append.new.self.newest f g c.args.self.now c.args.actor c.args.txn c.commit-lsn.result holds c.requires.comes c.requires.inside c.commit-lsn.ensures c.remove.ensures beside c.append.ensures.item in
+    (t.within, t.kept)
+
+pub returns-clause-answer : goal.returns-clause-answer
+returns-clause-answer c =
+    let i = c.self.inside in
+    let f = fields i.manager i.journal.spare i.clients.newest i.new_tables i.phase i.spec i.cursor in
+    let holds : Holds i.catalog i.loads i.journal.newest f c.args.self.now = record { within = c.self.invariant.0; kept = c.self.invariant.1; view = c.self.view_is } in
+    let g = fields c.commit-lsn.new.self c.append.new.self.spare c.remove.new.self.newest i.new_tables i.phase i.spec i.cursor in
+    let fewer = fewer_there i.catalog i.loads i.journal.newest f c.args.self.now c.args.actor c.args.txn holds c.requires.inside.inside in
+    let counted = ap length c.remove.ensures in
+    let spare = c.self.invariant.1.room in
+    let room : length c.remove.new.self.newest ≤ c.append.new.self.spare = omega (arith, c.append.ensures.room) in
+    let beside : Beside f g = record { new_tables = refl; now = refl; room = room } in
+    let t = committed_took i.catalog i.loads i.journal.newest c.append.new.self.newest f g c.args.self.now c.args.actor c.args.txn c.commit-lsn.result holds c.requires.comes c.requires.inside c.commit-lsn.ensures c.remove.ensures beside c.append.ensures.item in
+    (client_right _ _ c.args.actor request.Commit (reply.Committed c.commit-lsn.result) t.turns, t.turns)

@@ -1,45 +1,65 @@
-use Rattle.std.proofs.Common.{◌∷◌, ◌∙◌, ap, refl}
-use Rattle.sx_sync.specs.declared.Phase.TheVariants.{Done}
-use Rattle.sx_log.specs.declared.record.Rec.{Rec}
-use Rattle.sx_log.specs.declared.record.Body.TheVariants as body
-use Rattle.sx_journal.specs.declared.entry.Entry.{Entry}
+use Rattle.sx_model.specs.Switches.{switch_reply}
+use Rattle.std.proofs.Common.{◌≡◌, ◌≤◌, ◌∷◌, ◌∙◌, length, ap, sym, refl, subst, arith}
 use Rattle.sx_journal.specs.declared.entry.Event.TheVariants.{Switch}
 use Rattle.sx_journal.specs.declared.entry.Reply.TheVariants.{Switched}
-use Rattle.sx_core.proofs.TurnLemmas.{turned, opened, opened-more, grown_kept}
-use Rattle.sx_core.proofs.TransformLemmas.{kept-switched}
-use Rattle.sx_core.proofs.EventLemmas.{switch_right, can_exchange}
+use Rattle.std.proofs.Common.{List}
+use Rattle.sx_heap.specs.declared.tables.NamedTable.{NamedTable}
+use Rattle.sx_core.specs.Exchanges.{IsExchange, CanExchange}
+use Rattle.sx_core.proofs.TurnLemmas.{with_journal, memory_fails, fields, Holds, Leaves, stays, switch_right}
+use Rattle.sx_core.proofs.TransformLemmas.{own_entry, tables_there, can_exchange, chasing_stays, switched_took}
 use Rattle.sx_core.proofs.machine.Core.exchange.Goals as goal
 
 pub exchanged-requires : goal.exchanged-requires
 exchanged-requires c =
     let i = c.self.inside in
-    can_exchange _ i.journal.newest i.log.newest i.tables i.new_tables i.living i.begun i.phase i.spec i.cursor c.args.self.now
-    (record { kept = c.self.invariant.1; view = c.self.view_is; at = c.requires.chasing; room = c.requires.room })
+    let f = fields i.manager i.journal.spare i.clients.newest i.new_tables i.phase i.spec i.cursor in
+    let holds : Holds i.catalog i.loads i.journal.newest f c.args.self.now = record { within = c.self.invariant.0; kept = c.self.invariant.1; view = c.self.view_is } in
+    let meet = tables_there i.catalog i.loads i.journal.newest f c.args.self.now c.tables.result.now holds c.tables.ensures.now c.tables.ensures.tables in
+    subst (λ (tables : List NamedTable). CanExchange i.catalog i.spec tables) (sym c.tables.ensures.now) (can_exchange i.catalog i.loads i.journal.newest f c.args.self.now holds c.requires.chasing meet)
+
+pub invariant_of-self-in_err-room : goal.invariant_of-self-in_err-room
+invariant_of-self-in_err-room c =
+    let i = c.self.inside in
+    let f = fields i.manager i.journal.spare i.clients.newest i.new_tables i.phase i.spec i.cursor in
+    let holds : Holds i.catalog i.loads i.journal.newest f c.args.self.now = record { within = c.self.invariant.0; kept = c.self.invariant.1; view = c.self.view_is } in
+    let g = fields c.room.new.self c.reserve.new.self.spare i.clients.newest i.new_tables i.phase i.spec i.cursor in
+    let leaves : Leaves f g = record { managed = c.room.ensures.same; clients = refl; room = c.reserve.ensures.no_less; new_tables = refl; now = refl; spec = refl } in
+    let h = with_journal i.catalog i.loads i.journal.newest c.reserve.new.self.newest g c.args.self.now c.reserve.ensures.items (stays i.catalog i.loads i.journal.newest f g c.args.self.now holds leaves (chasing_stays i.catalog i.loads i.journal.newest f c.args.self.now g holds c.requires.chasing c.room.ensures.same.log refl refl refl)) in
+    (h.within, h.kept)
+
+pub returns-in_err-room : goal.returns-in_err-room
+returns-in_err-room c =
+    let i = c.self.inside in
+    let f = fields i.manager i.journal.spare i.clients.newest i.new_tables i.phase i.spec i.cursor in
+    let holds : Holds i.catalog i.loads i.journal.newest f c.args.self.now = record { within = c.self.invariant.0; kept = c.self.invariant.1; view = c.self.view_is } in
+    let g = fields c.room.new.self c.reserve.new.self.spare i.clients.newest i.new_tables i.phase i.spec i.cursor in
+    let leaves : Leaves f g = record { managed = c.room.ensures.same; clients = refl; room = c.reserve.ensures.no_less; new_tables = refl; now = refl; spec = refl } in
+    let h = with_journal i.catalog i.loads i.journal.newest c.reserve.new.self.newest g c.args.self.now c.reserve.ensures.items (stays i.catalog i.loads i.journal.newest f g c.args.self.now holds leaves (chasing_stays i.catalog i.loads i.journal.newest f c.args.self.now g holds c.requires.chasing c.room.ensures.same.log refl refl refl)) in
+    let m = c.args.self.now in
+    memory_fails (λ reply. reply ≡ switch_reply m.opening m.past) m _ 0 Switch c.from_residual-in_err-room.result c.from_residual-in_err-room.ensures.1 h.view
 
 pub invariant_of-self-2 : goal.invariant_of-self-2
 invariant_of-self-2 c =
     let i = c.self.inside in
-    let made = c.in_ok-fresh.ensures in
-    let r : Rec = record { txn = 0; body = body.Switch } in
-    let e : Entry = record { actor = 0; event = Switch; reply = Switched c.append-lsn.result } in
-    let grown = c.append-lsn.ensures.item ∙ ap (λ l. r ∷ l) c.reserve-2.ensures.items in
-    let longer = c.append.ensures.item ∙ ap (λ l. e ∷ l) c.reserve.ensures.items in
-    grown_kept i.catalog i.loads c.append.new.self.newest i.log.newest c.append-lsn.new.self.newest r i.tables c.in_ok-fresh.fresh i.living i.begun Done i.spec i.cursor c.self.invariant.0 grown
-    (kept-switched (opened i.catalog i.loads i.log.newest) i.journal.newest c.append.new.self.newest i.log.newest c.append-lsn.new.self.newest i.tables i.new_tables c.in_ok-fresh.fresh i.living i.begun i.phase i.spec made.wanted i.cursor c.args.self.now made.source c.append-lsn.result
-    (record { kept = c.self.invariant.1; view = c.self.view_is; at = c.requires.chasing; room = c.requires.room })
-    c.requires.free grown c.append-lsn.ensures.place made.is made.found made.relation made.made made.names made.rows longer)
+    let f = fields i.manager i.journal.spare i.clients.newest i.new_tables i.phase i.spec i.cursor in
+    let holds : Holds i.catalog i.loads i.journal.newest f c.args.self.now = record { within = c.self.invariant.0; kept = c.self.invariant.1; view = c.self.view_is } in
+    let meet = tables_there i.catalog i.loads i.journal.newest f c.args.self.now c.tables.result.now holds c.tables.ensures.now c.tables.ensures.tables in
+    let made = subst (λ (tables : List NamedTable). IsExchange i.catalog i.spec tables c.in_ok-fresh.fresh) c.tables.ensures.now c.in_ok-fresh.ensures in
+    let room : length i.clients.newest ≤ c.append.new.self.spare = omega (arith, c.in_ok-reserve.ensures.room, c.append.ensures.room, c.room_and.ensures) in
+    let longer = c.append.ensures.item ∙ ap (λ l. own_entry Switch (Switched c.note-lsn.result) ∷ l) c.reserve.ensures.items in
+    let t = switched_took i.catalog i.loads i.journal.newest c.append.new.self.newest f c.args.self.now c.room.new.self c.note-lsn.new.self c.append.new.self.spare c.note-lsn.result c.in_ok-fresh.fresh holds c.requires.chasing c.requires.place c.requires.free meet made
+    c.room.ensures.same c.note-lsn.ensures room longer in
+    (t.within, t.kept)
 
 pub returns : goal.returns
 returns c =
     let i = c.self.inside in
-    let made = c.in_ok-fresh.ensures in
-    let r : Rec = record { txn = 0; body = body.Switch } in
-    let e : Entry = record { actor = 0; event = Switch; reply = Switched c.append-lsn.result } in
-    let grown = c.append-lsn.ensures.item ∙ ap (λ l. r ∷ l) c.reserve-2.ensures.items in
-    let longer = c.append.ensures.item ∙ ap (λ l. e ∷ l) c.reserve.ensures.items in
-    let turn = turned (opened i.catalog i.loads i.log.newest) _ i.journal.newest c.append.new.self.newest c.append-lsn.new.self.newest i.tables c.in_ok-fresh.fresh i.living i.begun Done i.spec i.cursor c.args.self.now 0 Switch (Switched c.append-lsn.result) (Switched c.append-lsn.result)
-    c.self.view_is (opened-more i.catalog i.loads i.log.newest c.append-lsn.new.self.newest r c.self.invariant.0 grown) longer refl
-    (kept-switched (opened i.catalog i.loads i.log.newest) i.journal.newest c.append.new.self.newest i.log.newest c.append-lsn.new.self.newest i.tables i.new_tables c.in_ok-fresh.fresh i.living i.begun i.phase i.spec made.wanted i.cursor c.args.self.now made.source c.append-lsn.result
-    (record { kept = c.self.invariant.1; view = c.self.view_is; at = c.requires.chasing; room = c.requires.room })
-    c.requires.free grown c.append-lsn.ensures.place made.is made.found made.relation made.made made.names made.rows longer) in
-    (switch_right _ _ (Switched c.append-lsn.result) turn, turn)
+    let f = fields i.manager i.journal.spare i.clients.newest i.new_tables i.phase i.spec i.cursor in
+    let holds : Holds i.catalog i.loads i.journal.newest f c.args.self.now = record { within = c.self.invariant.0; kept = c.self.invariant.1; view = c.self.view_is } in
+    let meet = tables_there i.catalog i.loads i.journal.newest f c.args.self.now c.tables.result.now holds c.tables.ensures.now c.tables.ensures.tables in
+    let made = subst (λ (tables : List NamedTable). IsExchange i.catalog i.spec tables c.in_ok-fresh.fresh) c.tables.ensures.now c.in_ok-fresh.ensures in
+    let room : length i.clients.newest ≤ c.append.new.self.spare = omega (arith, c.in_ok-reserve.ensures.room, c.append.ensures.room, c.room_and.ensures) in
+    let longer = c.append.ensures.item ∙ ap (λ l. own_entry Switch (Switched c.note-lsn.result) ∷ l) c.reserve.ensures.items in
+    let t = switched_took i.catalog i.loads i.journal.newest c.append.new.self.newest f c.args.self.now c.room.new.self c.note-lsn.new.self c.append.new.self.spare c.note-lsn.result c.in_ok-fresh.fresh holds c.requires.chasing c.requires.place c.requires.free meet made
+    c.room.ensures.same c.note-lsn.ensures room longer in
+    (switch_right _ _ (Switched c.note-lsn.result) t.turns, t.turns)

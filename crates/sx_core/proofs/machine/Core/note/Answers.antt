@@ -1,25 +1,30 @@
-use Rattle.std.proofs.Common.{◌∷◌, ◌∙◌, ap, refl}
+use Rattle.std.proofs.Common.{◌≤◌, ◌∷◌, ◌∙◌, length, ap, refl, arith}
 use Rattle.sx_journal.specs.declared.entry.Event.TheVariants.{Client}
-use Rattle.sx_core.proofs.TurnLemmas.{client_entry, kept-note, turned}
+use Rattle.sx_core.proofs.TurnLemmas.{fields, unchanged, Holds, told_as, client_right}
+use Rattle.sx_core.proofs.ClientLemmas.{client_entry, Beside, noted}
 use Rattle.sx_core.proofs.machine.Core.note.Goals as goal
 
 pub invariant_of-self-2 : goal.invariant_of-self-2
 invariant_of-self-2 c =
-    let i = c.self.inside in (
-      c.self.invariant.0,
-      kept-note _ i.journal.newest _ i.log.newest i.tables i.new_tables i.living i.begun i.phase i.spec i.cursor c.args.self.now c.args.actor c.args.request c.args.reply
-          (record { kept = c.self.invariant.1; view = c.self.view_is; client = c.requires.actor; idle = c.requires.idle; room = c.requires.room })
-          (c.append.ensures.item ∙ ap (λ l. client_entry c.args.actor c.args.request c.args.reply ∷ l) c.reserve.ensures.items) c.requires.answered c.requires.quiet,
-    )
+    let i = c.self.inside in
+    let f = fields i.manager i.journal.spare i.clients.newest i.new_tables i.phase i.spec i.cursor in
+    let g = fields i.manager c.append.new.self.spare i.clients.newest i.new_tables i.phase i.spec i.cursor in
+    let holds : Holds i.catalog i.loads i.journal.newest f c.args.self.now = record { within = c.self.invariant.0; kept = c.self.invariant.1; view = c.self.view_is } in
+    let room : length i.clients.newest ≤ c.append.new.self.spare = omega (arith, c.in_ok-reserve.ensures.room, c.append.ensures.room, c.room_and.ensures) in
+    let beside : Beside f g = record { new_tables = refl; now = refl; room = room } in
+    let longer = c.append.ensures.item ∙ ap (λ l. client_entry c.args.actor c.args.request c.args.reply ∷ l) c.reserve.ensures.items in
+    let t = noted i.catalog i.loads i.journal.newest c.append.new.self.newest f g c.args.self.now c.args.actor c.args.request c.args.reply holds c.requires.comes c.requires.place c.requires.answered c.requires.quiet (unchanged i.manager) refl beside longer in
+    (t.within, t.kept)
 
 pub returns : goal.returns
 returns c =
     let i = c.self.inside in
-    let longer = c.append.ensures.item ∙ ap (λ l. client_entry c.args.actor c.args.request c.args.reply ∷ l) c.reserve.ensures.items in (
-      rw c.in_ok-answer.ensures c.requires.answered,
-      turned _ _ i.journal.newest c.append.new.self.newest i.log.newest i.tables i.new_tables i.living i.begun i.phase i.spec i.cursor c.args.self.now c.args.actor (Client c.args.request) c.args.reply c.in_ok-answer.answer
-          c.self.view_is refl longer c.in_ok-answer.ensures
-          (kept-note _ i.journal.newest _ i.log.newest i.tables i.new_tables i.living i.begun i.phase i.spec i.cursor c.args.self.now c.args.actor c.args.request c.args.reply
-          (record { kept = c.self.invariant.1; view = c.self.view_is; client = c.requires.actor; idle = c.requires.idle; room = c.requires.room })
-          longer c.requires.answered c.requires.quiet),
-    )
+    let f = fields i.manager i.journal.spare i.clients.newest i.new_tables i.phase i.spec i.cursor in
+    let g = fields i.manager c.append.new.self.spare i.clients.newest i.new_tables i.phase i.spec i.cursor in
+    let holds : Holds i.catalog i.loads i.journal.newest f c.args.self.now = record { within = c.self.invariant.0; kept = c.self.invariant.1; view = c.self.view_is } in
+    let room : length i.clients.newest ≤ c.append.new.self.spare = omega (arith, c.in_ok-reserve.ensures.room, c.append.ensures.room, c.room_and.ensures) in
+    let beside : Beside f g = record { new_tables = refl; now = refl; room = room } in
+    let longer = c.append.ensures.item ∙ ap (λ l. client_entry c.args.actor c.args.request c.args.reply ∷ l) c.reserve.ensures.items in
+    let t = noted i.catalog i.loads i.journal.newest c.append.new.self.newest f g c.args.self.now c.args.actor c.args.request c.args.reply holds c.requires.comes c.requires.place c.requires.answered c.requires.quiet (unchanged i.manager) refl beside longer in
+    let told = told_as i.catalog i.loads c.append.new.self.newest g c.args.self.now c.args.actor (Client c.args.request) c.args.reply c.in_ok-answer.answer c.in_ok-answer.ensures t in
+    (client_right _ _ c.args.actor c.args.request c.in_ok-answer.answer told.turns, told.turns)

@@ -1,20 +1,17 @@
-use Rattle.std.proofs.Common.{◌≡◌, ◌++◌, ◌∷◌, [], List, Bool, true, not, sym, ◌∙◌, ap, subst, arith, length, ◌==◌}
-use Rattle.std.proofs.lemmas.Grind.{common_steps}
+use Rattle.std.proofs.Common.{◌≡◌, ◌++◌, ◌∷◌, [], List, sym, ◌∙◌, subst}
 use Rattle.sx_values.specs.declared.catalog.Declared.{Declared}
-use Rattle.sx_script.specs.declared.line.Line.{Line}
-use Rattle.sx_script.specs.declared.line.Line.TheVariants.{Table}
-use Rattle.sx_script.specs.Plans.{plan_of}
+use Rattle.sx_lines.specs.declared.line.Line.{Line}
+use Rattle.sx_lines.specs.declared.line.Line.TheVariants.{Table}
 use Rattle.sx_script.specs.Parsers.{Keeps}
-use Rattle.sx_script.proofs.PlanLaws.{keeps_table}
+use Rattle.sx_script.proofs.KeepLaws.{keeps_table}
 use Rattle.sx_script.proofs.parser.Parser.with_table.Goals as goal
 
 pub invariant_of-self : goal.invariant_of-self
 invariant_of-self c =
     let s = c.self.inside in
-    let P : List Line → Type 0 = λ lines. Keeps (plan_of lines) c.declare.new.self s.keys.keys s.is_changed s.is_started s.is_open in
+    let P : List Line → Type 0 = λ lines. Keeps lines c.declare.new.self s.places.keys s.is_changed s.is_started s.is_counted in
     let pushed : c.push.new.self.items ≡ s.lines.items ++ Table c.args.name c.args.schema ∷ [] = c.in_ok-push.ensures.items in
     let Copy : List Declared → Type 0 = λ tables. tables ≡ s.catalog ++ record { name = c.args.name; schema = c.args.schema; indexes = [] } ∷ [] in
     let copied : Copy (s.catalog ++ record { name = c.in_ok-copy.field-0; schema = c.in_ok-copy-2.field-0; indexes = [] } ∷ []) =
     λ i. s.catalog ++ record { name = c.in_ok-copy.ensures i; schema = c.in_ok-copy-2.ensures i; indexes = [] } ∷ [] in
-    let empty : c.is_empty.result ≡ true = grind (arith, common_steps) in
-    subst P (sym pushed) (keeps_table s.lines.items s.catalog c.declare.new.self s.keys.keys s.is_changed s.is_started s.is_open c.args.name c.args.schema c.self.invariant c.if-self-2.false (sym (ap (λ t. length t == 0) c.tables.ensures.tables) ∙ sym c.is_empty.ensures ∙ empty) (c.in-Ok.ensures.ok ∙ copied))
+    subst P (sym pushed) (keeps_table s.lines.items s.catalog c.declare.new.self s.places.keys s.is_changed s.is_started s.is_counted c.args.name c.args.schema c.self.invariant c.if-self-2.false (c.in-Ok.ensures.ok ∙ copied))

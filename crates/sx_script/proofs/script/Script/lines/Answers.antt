@@ -1,13 +1,15 @@
-use Rattle.std.proofs.Common.{◌≡◌, ◌≤◌, List, length, Some, sym, ap, subst}
+use Rattle.std.proofs.Common.{◌≡◌, ◌≤◌, List, length, Some, subst}
 use Rattle.std.specs.List.{All}
 use Rattle.sx_values.specs.Catalogs.{IsCatalog}
-use Rattle.sx_script.specs.declared.line.Line.{Line}
+use Rattle.sx_lines.specs.declared.line.Line.{Line}
 use Rattle.sx_script.specs.Plans.{plan_of}
 use Rattle.sx_script.specs.Reading.{script_read}
-use Rattle.sx_script.specs.Printing.{HasText, script_text}
+use Rattle.sx_lines.specs.Printing.{HasText}
+use Rattle.sx_script.specs.Printing.{script_text}
 use Rattle.sx_script.specs.Sound.{IsRunnable}
 use Rattle.sx_script.proofs.ScriptLaws.{script_short, script_texts, runnable}
-use Rattle.sx_script.proofs.AgainLaws.{script_again, has_layouts}
+use Rattle.sx_lines.proofs.AgainLaws.{has_layouts}
+use Rattle.sx_script.proofs.AgainLaws.{script_again}
 use Rattle.sx_script.proofs.script.Script.lines.Goals as goal
 
 pub returns-clause-runs : goal.returns-clause-runs

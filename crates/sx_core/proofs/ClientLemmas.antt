@@ -1,0 +1,458 @@
+-- A client's turn, outcome by outcome: from what the manager answers to what the fields keep.
+use Rattle.std.proofs.Common.{◌≡◌, ◌≤◌, ◌+◌, ◌∷◌, [], ℕ, false, List, length, Option, Some, None, refl, sym, ◌∙◌, ap, subst, inl, inr, IsSome, IsSomeAnd, option_map}
+use Rattle.sx_values.specs.declared.value.Value.{Value}
+use Rattle.sx_values.specs.declared.catalog.Declared.{Declared}
+use Rattle.sx_values.specs.Layouts.{Layout, key_fault}
+use Rattle.sx_values.specs.Names.{same_name}
+use Rattle.sx_values.specs.Catalogs.{declared_as, schema_of}
+use Rattle.sx_log.specs.declared.record.Rec.{Rec}
+use Rattle.sx_log.specs.declared.record.Body.TheVariants.{Write, Commit, Abort}
+use Rattle.sx_log.specs.State.{row_left}
+use Rattle.sx_log.specs.Undoing.{writes_left, undo_record, undo_last}
+use Rattle.sx_locks.specs.declared.mode.Mode.TheVariants.{Shared, Exclusive}
+use Rattle.sx_txn.specs.declared.answers.Change.{Change}
+use Rattle.sx_txn.specs.declared.answers.Change.TheVariants.{Insert, Replace, Delete}
+use Rattle.sx_txn.specs.declared.answers.TxnRead.{TxnRead}
+use Rattle.sx_txn.specs.declared.answers.TxnRead.TheVariants as read
+use Rattle.sx_txn.specs.declared.answers.TxnWrite.{TxnWrite}
+use Rattle.sx_txn.specs.declared.answers.TxnWrite.TheVariants as write
+use Rattle.sx_heap.specs.declared.tables.NamedTable.{NamedTable}
+use Rattle.sx_heap.specs.Relations.{Relation, row_at}
+use Rattle.sx_heap.specs.NamedTables.{table_named}
+use Rattle.sx_txn.specs.Managed.{Managed, AreTables, Unchanged, schema_in}
+use Rattle.sx_txn.specs.Turns.{Begins as ManagerBegins, Reads as ManagerReads, Writes as ManagerWrites, Ends, Undoes as ManagerUndoes, Hinders, CanChange, FitsSchema, key_of_change, image_of}
+use Rattle.sx_txn.specs.Answers.{AnswersRead, AnswersWrite, AnswersAt, Refuses, Makes, Aborts as ManagerAborts}
+use Rattle.sx_sync.specs.declared.Phase.TheVariants.{Idle}
+use Rattle.sx_journal.specs.declared.entry.Entry.{Entry}
+use Rattle.sx_journal.specs.declared.entry.Event.TheVariants.{Client}
+use Rattle.sx_journal.specs.declared.entry.Request.{Request}
+use Rattle.sx_journal.specs.declared.entry.Request.TheVariants as request
+use Rattle.sx_journal.specs.declared.entry.Reply.{Reply}
+use Rattle.sx_journal.specs.declared.entry.Reply.TheVariants as reply
+use Rattle.sx_model.specs.Effects.{effect, Nothing, Reads, Begins, Writes, Undoes, Commits, Aborts}
+use Rattle.sx_model.specs.Openings.{Opening}
+use Rattle.sx_model.specs.Leaves.{living, without, phase, started, txn_of, txn_among, begun}
+use Rattle.sx_model.specs.Logs.{log_of, next_lsn, row_now}
+use Rattle.sx_model.specs.Held.{is_ending, holder}
+use Rattle.sx_model.specs.Replies.{client_reply, unless_held, read_answer}
+use Rattle.sx_model.specs.Legal.{Allows, IsLegalEntry, HasRoom}
+use Rattle.sx_model.proofs.TestLaws.{by_cases}
+use Rattle.sx_model.proofs.EntryLaws.{living_by}
+use Rattle.sx_core.specs.Machines.{Machine}
+use Rattle.sx_core.specs.Kept.{Fields, ManagerMeets, IsIdle, TransformMeets, IsKept, shapes_of}
+use Rattle.sx_core.specs.Asked.{Comes, HasPlace, IsInside, asked_for}
+use Rattle.sx_core.specs.Refusals.{change_fault, row_told, read_told, read_told_of, write_told}
+use Rattle.sx_core.proofs.LivingLemmas.{one_fewer}
+use Rattle.sx_core.proofs.TableLemmas.{meets_named, found_meets}
+use Rattle.sx_core.proofs.HolderLemmas.{holder-named, holder-none}
+use Rattle.sx_core.proofs.ManagerLemmas.{meets-quiet, meets-begun, meets-read, meets-written, meets-ended, meets-undone, commit_ends, abort_ends}
+use Rattle.sx_core.proofs.ReplyLemmas.{begin-answered, undone-answered, aborted-answered, commit-answered, read-answered, change-answered, IsGood, change_told, told-done, told-exists, told-missing, change-key, read-key, change-record, effect-row, effect-absent, effect-begun, effect-done, effect-committed, effect-undone, effect-aborted, quiet-held, quiet-exists, quiet-missing, committed-true}
+use Rattle.sx_core.proofs.TurnLemmas.{Holds, from_view, Longer, no_longer, by_one, Took, took, opened, idle_now, phase_by, started_told, next_there}
+
+-- the entry of a client's request with its answer
+abbrev pub client_entry : ℕ → Request → Reply → Entry
+client_entry actor asked answer = record { actor = actor; event = Client asked; reply = answer }
+
+-- what a client's turn leaves of the fields
+pub record ClientLeaves (o : Opening) (past : List Entry) (f g : Fields) (e : Entry) : Type 0 where
+  pub manager : ManagerMeets o (e ∷ past) g.managed
+  pub clients : g.clients ≡ living (e ∷ past)
+  pub phase : phase (e ∷ past) ≡ phase past
+  pub started : started (e ∷ past) ≡ started past
+
+-- the fields that no client's turn touches, and the room that there is for the end of each live transaction
+pub record Beside (f g : Fields) : Type 0 where
+  pub new_tables : g.new_tables ≡ f.new_tables
+  pub now : g.now ≡ f.now
+  pub room : length g.clients ≤ g.spare
+
+legal-client : (o : Opening) (past : List Entry) (actor : ℕ) (asked : Request) (answer : Reply) → 1 ≤ actor → actor ≤ 8 → phase past ≡ Idle → HasRoom past answer → answer ≡ client_reply o past actor asked
+    → IsLegalEntry o past (client_entry actor asked answer)
+unfolding Allows
+legal-client o past actor asked answer from_one to_eight idle room answered =
+    record { room = room; allowed = record { from_one = from_one; to_eight = to_eight; idle = idle; answered = answered } }
+
+-- the machine keeps what it kept, behind the client's entry
+kept-client : (o : Opening) (past : List Entry) (f g : Fields) (e : Entry) → IsKept o past f → f.now ≡ Idle → IsLegalEntry o past e → ClientLeaves o past f g e → Beside f g → IsKept o (e ∷ past) g
+kept-client o past f g e kept idle entry leaves beside =
+    let was : IsIdle past f.spec f.new_tables = subst (λ p. TransformMeets o past f.managed.log f.managed.tables p f.spec f.cursor f.new_tables) idle kept.transform_meets in
+    let is : IsIdle (e ∷ past) g.spec g.new_tables = record { none = leaves.started ∙ was.none; no_tables = beside.new_tables ∙ was.no_tables } in
+    record {
+      legal = (kept.legal, entry);
+      manager_meets = leaves.manager;
+      clients_are = leaves.clients;
+      room = beside.room;
+      phase_is = leaves.phase ∙ kept.phase_is ∙ sym beside.now;
+      transform_meets = subst (λ p. TransformMeets o (e ∷ past) g.managed.log g.managed.tables p g.spec g.cursor g.new_tables) (sym (beside.now ∙ idle)) is;
+    }
+
+-- a client's turn, from what it leaves
+pub client_took : (catalog : List Declared) (loads : ℕ) (past journal : List Entry) (f g : Fields) (m : Machine) (actor : ℕ) (asked : Request) (answer : Reply)
+    → Holds catalog loads past f m → Comes m actor → HasRoom past answer → Longer f.managed.log g.managed.log → journal ≡ client_entry actor asked answer ∷ past
+    → answer ≡ client_reply (opened catalog loads f.managed.log) past actor asked → ClientLeaves (opened catalog loads f.managed.log) past f g (client_entry actor asked answer) → Beside f g
+    → Took catalog loads journal g m actor (Client asked) answer
+client_took catalog loads past journal f g m actor asked answer holds comes room longer is answered leaves beside =
+    let idle = idle_now catalog loads past f m holds comes.idle in
+    let entry = legal-client (opened catalog loads f.managed.log) past actor asked answer comes.from_one comes.to_eight (holds.kept.phase_is ∙ idle) room answered in
+    let kept = kept-client (opened catalog loads f.managed.log) past f g (client_entry actor asked answer) holds.kept idle entry leaves beside in
+    took catalog loads past journal f g m actor (Client asked) answer holds longer is (subst (λ j. IsKept (opened catalog loads f.managed.log) j g) (sym is) kept)
+
+place_here : (catalog : List Declared) (loads : ℕ) (past : List Entry) (f : Fields) (m : Machine) (answer : Reply) → Holds catalog loads past f m → HasPlace m → HasRoom past answer
+place_here catalog loads past f m answer holds place = inl (from_view HasPlace (opened catalog loads f.managed.log) past m holds.view place)
+
+inside_here : (catalog : List Declared) (loads : ℕ) (past : List Entry) (f : Fields) (m : Machine) (actor txn : ℕ) → Holds catalog loads past f m → txn_of m.past actor ≡ Some txn → txn_of past actor ≡ Some txn
+inside_here catalog loads past f m actor txn holds inside = from_view (λ (x : Machine). txn_of x.past actor ≡ Some txn) (opened catalog loads f.managed.log) past m holds.view inside
+
+rests_here : (catalog : List Declared) (loads : ℕ) (past : List Entry) (f : Fields) (m : Machine) (txn : ℕ) → Holds catalog loads past f m → is_ending m.past txn ≡ false → is_ending past txn ≡ false
+rests_here catalog loads past f m txn holds rests = from_view (λ (x : Machine). is_ending x.past txn ≡ false) (opened catalog loads f.managed.log) past m holds.view rests
+
+-- ** an answer that changes nothing **
+
+leaves-quiet : (o : Opening) (past : List Entry) (f g : Fields) (e : Entry) → IsKept o past f → Unchanged f.managed g.managed → g.clients ≡ f.clients → effect e.reply ≡ Nothing → ClientLeaves o past f g e
+leaves-quiet o past f g e kept stays clients told = record {
+  manager = meets-quiet o past f.managed g.managed e kept.manager_meets stays told;
+  clients = clients ∙ kept.clients_are ∙ sym (living_by past e Nothing told);
+  phase = phase_by past e Nothing told;
+  started = started_told past e Nothing told;
+}
+
+pub noted : (catalog : List Declared) (loads : ℕ) (past journal : List Entry) (f g : Fields) (m : Machine) (actor : ℕ) (asked : Request) (answer : Reply)
+    → Holds catalog loads past f m → Comes m actor → HasPlace m → client_reply m.opening m.past actor asked ≡ answer → effect answer ≡ Nothing
+    → Unchanged f.managed g.managed → g.clients ≡ f.clients → Beside f g → journal ≡ client_entry actor asked answer ∷ past
+    → Took catalog loads journal g m actor (Client asked) answer
+noted catalog loads past journal f g m actor asked answer holds comes place answered quiet stays clients beside is =
+    let told = from_view (λ (x : Machine). client_reply x.opening x.past actor asked ≡ answer) (opened catalog loads f.managed.log) past m holds.view answered in
+    client_took catalog loads past journal f g m actor asked answer holds comes (place_here catalog loads past f m answer holds place) (no_longer stays.log) is (sym told)
+    (leaves-quiet (opened catalog loads f.managed.log) past f g (client_entry actor asked answer) holds.kept stays clients quiet) beside
+
+-- ** a begin **
+
+leaves-begun : (o : Opening) (past : List Entry) (f g : Fields) (actor txn : ℕ) → IsKept o past f → ManagerBegins f.managed g.managed txn → txn_of past actor ≡ None → g.clients ≡ record { client = actor; txn = txn } ∷ f.clients
+    → ClientLeaves o past f g (client_entry actor request.Begin (reply.Begun txn))
+leaves-begun o past f g actor txn kept begins outside clients =
+    let e = client_entry actor request.Begin (reply.Begun txn) in
+    let told = effect-begun txn in
+    record {
+      manager = meets-begun o past f.managed g.managed (client_entry actor request.Begin (reply.Begun txn)) txn kept.legal kept.manager_meets begins told outside;
+      clients = clients ∙ ap (λ l. record { client = actor; txn = txn } ∷ l) kept.clients_are ∙ sym (living_by past (client_entry actor request.Begin (reply.Begun txn)) (Begins txn) told);
+      phase = phase_by past (client_entry actor request.Begin (reply.Begun txn)) (Begins txn) told;
+      started = started_told past (client_entry actor request.Begin (reply.Begun txn)) (Begins txn) told;
+    }
+
+pub begun_took : (catalog : List Declared) (loads : ℕ) (past journal : List Entry) (f g : Fields) (m : Machine) (actor txn : ℕ)
+    → Holds catalog loads past f m → Comes m actor → HasPlace m → txn_of m.past actor ≡ None
+    → ManagerBegins f.managed g.managed txn → g.clients ≡ record { client = actor; txn = txn } ∷ f.clients → Beside f g → journal ≡ client_entry actor request.Begin (reply.Begun txn) ∷ past
+    → Took catalog loads journal g m actor (Client request.Begin) (reply.Begun txn)
+begun_took catalog loads past journal f g m actor txn holds comes place outside begins clients beside is =
+    let none = from_view (λ (x : Machine). txn_of x.past actor ≡ None) (opened catalog loads f.managed.log) past m holds.view outside in
+    let number : txn ≡ begun past + 1 = begins.number ∙ ap (λ n. n + 1) holds.kept.manager_meets.begun in
+    client_took catalog loads past journal f g m actor request.Begin (reply.Begun txn) holds comes (place_here catalog loads past f m (reply.Begun txn) holds place) (no_longer begins.log) is
+    (ap reply.Begun number ∙ sym (begin-answered (opened catalog loads f.managed.log) past actor none))
+    (leaves-begun (opened catalog loads f.managed.log) past f g actor txn holds.kept begins none clients) beside
+
+-- a client's turn that ends its transaction leaves room for the others' ends
+pub fewer_there : (catalog : List Declared) (loads : ℕ) (past : List Entry) (f : Fields) (m : Machine) (actor txn : ℕ) → Holds catalog loads past f m → txn_of m.past actor ≡ Some txn → length (without actor f.clients) + 1 ≤ length f.clients
+fewer_there catalog loads past f m actor txn holds in_txn =
+    let inside = inside_here catalog loads past f m actor txn holds in_txn in
+    one_fewer f.clients actor txn (ap (λ l. txn_among l actor) holds.kept.clients_are ∙ inside)
+
+-- ** a commit **
+
+leaves-committed : (o : Opening) (past : List Entry) (f g : Fields) (actor txn lsn : ℕ) → IsKept o past f → Ends f.managed g.managed txn Commit lsn → txn_of past actor ≡ Some txn → g.clients ≡ without actor f.clients
+    → ClientLeaves o past f g (client_entry actor request.Commit (reply.Committed lsn))
+leaves-committed o past f g actor txn lsn kept ends inside clients =
+    let told = effect-committed lsn in
+    record {
+      manager = meets-ended o past f.managed g.managed (client_entry actor request.Commit (reply.Committed lsn)) Commits txn lsn Commit kept.legal kept.manager_meets ends (commit_ends o past (client_entry actor request.Commit (reply.Committed lsn)) txn told inside);
+      clients = clients ∙ ap (without actor) kept.clients_are ∙ sym (living_by past (client_entry actor request.Commit (reply.Committed lsn)) Commits told);
+      phase = phase_by past (client_entry actor request.Commit (reply.Committed lsn)) Commits told;
+      started = started_told past (client_entry actor request.Commit (reply.Committed lsn)) Commits told;
+    }
+
+pub committed_took : (catalog : List Declared) (loads : ℕ) (past journal : List Entry) (f g : Fields) (m : Machine) (actor txn lsn : ℕ)
+    → Holds catalog loads past f m → Comes m actor → IsInside m actor txn
+    → Ends f.managed g.managed txn Commit lsn → g.clients ≡ without actor f.clients → Beside f g → journal ≡ client_entry actor request.Commit (reply.Committed lsn) ∷ past
+    → Took catalog loads journal g m actor (Client request.Commit) (reply.Committed lsn)
+committed_took catalog loads past journal f g m actor txn lsn holds comes in_txn ends clients beside is =
+    let inside = inside_here catalog loads past f m actor txn holds in_txn.inside in
+    let rests = rests_here catalog loads past f m txn holds in_txn.resting in
+    let next = next_there (opened catalog loads f.managed.log) past f.managed lsn holds.kept.manager_meets ends.place in
+    client_took catalog loads past journal f g m actor request.Commit (reply.Committed lsn) holds comes (inr (committed-true lsn)) (by_one (record { txn = txn; body = Commit }) ends.log) is
+    (ap reply.Committed next ∙ sym (commit-answered (opened catalog loads f.managed.log) past actor txn inside rests))
+    (leaves-committed (opened catalog loads f.managed.log) past f g actor txn lsn holds.kept ends inside clients) beside
+
+-- ** an undo **
+
+leaves-undone : (o : Opening) (past : List Entry) (f g : Fields) (actor txn lsn : ℕ) → IsKept o past f → ManagerUndoes f.managed g.managed txn lsn → txn_of past actor ≡ Some txn → g.clients ≡ f.clients
+    → ClientLeaves o past f g (client_entry actor request.Undo (reply.Undone lsn))
+leaves-undone o past f g actor txn lsn kept undoes inside clients =
+    let told = effect-undone lsn in
+    record {
+      manager = meets-undone o past f.managed g.managed (client_entry actor request.Undo (reply.Undone lsn)) txn lsn kept.manager_meets undoes told inside;
+      clients = clients ∙ kept.clients_are ∙ sym (living_by past (client_entry actor request.Undo (reply.Undone lsn)) Undoes told);
+      phase = phase_by past (client_entry actor request.Undo (reply.Undone lsn)) Undoes told;
+      started = started_told past (client_entry actor request.Undo (reply.Undone lsn)) Undoes told;
+    }
+
+-- something is left to undo where an undo makes a record
+pub data IsLeft (left : List ℕ) : Type 0 where
+  is_left : (lsn : ℕ) (rest : List ℕ) → left ≡ lsn ∷ rest → IsLeft left
+
+left_of : (log : List Rec) (txn : ℕ) (left : List ℕ) (back : Rec) → undo_last log txn left ≡ Some back → IsLeft left
+left_of log txn [] back made = absurd (cc)
+left_of log txn (lsn ∷ rest) back made = is_left lsn rest refl
+
+pub undone_took : (catalog : List Declared) (loads : ℕ) (past journal : List Entry) (f g : Fields) (m : Machine) (actor txn lsn : ℕ)
+    → Holds catalog loads past f m → Comes m actor → HasPlace m → txn_of m.past actor ≡ Some txn
+    → ManagerUndoes f.managed g.managed txn lsn → g.clients ≡ f.clients → Beside f g → journal ≡ client_entry actor request.Undo (reply.Undone lsn) ∷ past
+    → Took catalog loads journal g m actor (Client request.Undo) (reply.Undone lsn)
+undone_took catalog loads past journal f g m actor txn lsn holds comes place in_txn undoes clients beside is =
+    let inside = inside_here catalog loads past f m actor txn holds in_txn in
+    let next = next_there (opened catalog loads f.managed.log) past f.managed lsn holds.kept.manager_meets undoes.place in
+    let made : undo_record (log_of (opened catalog loads f.managed.log) past) txn ≡ Some undoes.back = ap (λ l. undo_record l txn) (sym holds.kept.manager_meets.log_is) ∙ undoes.made in
+    let answered = by inside (left_of (log_of (opened catalog loads f.managed.log) past) txn (writes_left txn (log_of (opened catalog loads f.managed.log) past)) undoes.back made) in
+    client_took catalog loads past journal f g m actor request.Undo (reply.Undone lsn) holds comes (place_here catalog loads past f m (reply.Undone lsn) holds place) (by_one undoes.back undoes.log) is
+    (ap reply.Undone next ∙ sym answered)
+    (leaves-undone (opened catalog loads f.managed.log) past f g actor txn lsn holds.kept undoes inside clients) beside
+  where
+    by : txn_of past actor ≡ Some txn → IsLeft (writes_left txn (log_of (opened catalog loads f.managed.log) past)) → client_reply (opened catalog loads f.managed.log) past actor request.Undo ≡ reply.Undone (next_lsn (opened catalog loads f.managed.log) past)
+    by inside (is_left first rest left) = undone-answered (opened catalog loads f.managed.log) past actor txn first rest inside left
+
+leaves-aborted : (o : Opening) (past : List Entry) (f g : Fields) (actor txn lsn : ℕ) → IsKept o past f → Ends f.managed g.managed txn Abort lsn → txn_of past actor ≡ Some txn → g.clients ≡ without actor f.clients
+    → ClientLeaves o past f g (client_entry actor request.Undo (reply.Aborted lsn))
+leaves-aborted o past f g actor txn lsn kept ends inside clients =
+    let told = effect-aborted lsn in
+    record {
+      manager = meets-ended o past f.managed g.managed (client_entry actor request.Undo (reply.Aborted lsn)) Aborts txn lsn Abort kept.legal kept.manager_meets ends (abort_ends o past (client_entry actor request.Undo (reply.Aborted lsn)) txn told inside);
+      clients = clients ∙ ap (without actor) kept.clients_are ∙ sym (living_by past (client_entry actor request.Undo (reply.Aborted lsn)) Aborts told);
+      phase = phase_by past (client_entry actor request.Undo (reply.Aborted lsn)) Aborts told;
+      started = started_told past (client_entry actor request.Undo (reply.Aborted lsn)) Aborts told;
+    }
+
+pub aborted_took : (catalog : List Declared) (loads : ℕ) (past journal : List Entry) (f g : Fields) (m : Machine) (actor txn lsn : ℕ)
+    → Holds catalog loads past f m → Comes m actor → HasPlace m → txn_of m.past actor ≡ Some txn
+    → ManagerAborts f.managed g.managed txn lsn → g.clients ≡ without actor f.clients → Beside f g → journal ≡ client_entry actor request.Undo (reply.Aborted lsn) ∷ past
+    → Took catalog loads journal g m actor (Client request.Undo) (reply.Aborted lsn)
+aborted_took catalog loads past journal f g m actor txn lsn holds comes place in_txn aborts clients beside is =
+    let inside = inside_here catalog loads past f m actor txn holds in_txn in
+    let next = next_there (opened catalog loads f.managed.log) past f.managed lsn holds.kept.manager_meets aborts.ends.place in
+    let left : writes_left txn (log_of (opened catalog loads f.managed.log) past) ≡ [] = ap (writes_left txn) (sym holds.kept.manager_meets.log_is) ∙ aborts.nothing in
+    client_took catalog loads past journal f g m actor request.Undo (reply.Aborted lsn) holds comes (place_here catalog loads past f m (reply.Aborted lsn) holds place) (by_one (record { txn = txn; body = Abort }) aborts.ends.log) is
+    (ap reply.Aborted next ∙ sym (aborted-answered (opened catalog loads f.managed.log) past actor txn inside left))
+    (leaves-aborted (opened catalog loads f.managed.log) past f g actor txn lsn holds.kept aborts.ends inside clients) beside
+
+-- ** a read **
+
+leaves-read : (o : Opening) (past : List Entry) (f g : Fields) (actor txn : ℕ) (table : List ℕ) (key : List Value) (row : Option (List Value)) (answer : Reply) → IsKept o past f → ManagerReads f.managed g.managed txn table key row
+    → txn_of past actor ≡ Some txn → g.clients ≡ f.clients → effect answer ≡ Reads → ClientLeaves o past f g (client_entry actor (request.Read table key) answer)
+leaves-read o past f g actor txn table key row answer kept reads inside clients told =
+    record {
+      manager = meets-read o past f.managed g.managed (client_entry actor (request.Read table key) answer) txn table key row kept.manager_meets reads told inside (read-key o.catalog table key);
+      clients = clients ∙ kept.clients_are ∙ sym (living_by past (client_entry actor (request.Read table key) answer) Reads told);
+      phase = phase_by past (client_entry actor (request.Read table key) answer) Reads told;
+      started = started_told past (client_entry actor (request.Read table key) answer) Reads told;
+    }
+
+-- a client of a live transaction asks for a key that its table admits
+pub record AsksKey (catalog : List Declared) (loads : ℕ) (past : List Entry) (f : Fields) (m : Machine) (actor txn : ℕ) (table : List ℕ) (key : List Value) : Type 0 where
+  pub holds : Holds catalog loads past f m
+  pub comes : Comes m actor
+  pub place : HasPlace m
+  pub in_txn : IsInside m actor txn
+  pub good : IsGood (schema_of catalog table) (λ schema. key_fault schema key)
+
+shown-row : (row : Option (List Value)) → effect (read_answer row) ≡ Reads
+shown-row (Some row) = effect-row row
+shown-row None = effect-absent
+
+pub shown_took : (catalog : List Declared) (loads : ℕ) (past journal : List Entry) (f g : Fields) (m : Machine) (actor txn : ℕ) (table : List ℕ) (key : List Value) (row : Option (List Value))
+    → AsksKey catalog loads past f m actor txn table key → ManagerReads f.managed g.managed txn table key row → g.clients ≡ f.clients → Beside f g → journal ≡ client_entry actor (request.Read table key) (read_answer row) ∷ past
+    → Took catalog loads journal g m actor (Client (request.Read table key)) (read_answer row)
+shown_took catalog loads past journal f g m actor txn table key row asks reads clients beside is =
+    let o = opened catalog loads f.managed.log in
+    let inside = inside_here catalog loads past f m actor txn asks.holds asks.in_txn.inside in
+    let rests = rests_here catalog loads past f m txn asks.holds asks.in_txn.resting in
+    let meets = asks.holds.kept.manager_meets in
+    let free = holder-none (opened catalog loads f.managed.log) past f.managed txn table key Shared meets reads.locks.free in
+    let there : row_now (opened catalog loads f.managed.log) past table key ≡ row = ap (λ l. row_left l table key) (sym meets.log_is) ∙ reads.there in
+    client_took catalog loads past journal f g m actor (request.Read table key) (read_answer row) asks.holds asks.comes (place_here catalog loads past f m (read_answer row) asks.holds asks.place) (no_longer reads.log) is
+    (sym (read-answered (opened catalog loads f.managed.log) past actor txn table key inside rests asks.good
+    ∙ ap (λ by. unless_held by (read_answer (row_now (opened catalog loads f.managed.log) past table key))) free ∙ ap read_answer there))
+    (leaves-read (opened catalog loads f.managed.log) past f g actor txn table key row (read_answer row) asks.holds.kept reads inside clients (shown-row row)) beside
+
+pub read_held : (catalog : List Declared) (loads : ℕ) (past journal : List Entry) (f g : Fields) (m : Machine) (actor txn : ℕ) (table : List ℕ) (key : List Value) (by : ℕ)
+    → AsksKey catalog loads past f m actor txn table key → Hinders f.managed g.managed txn table key Shared by → g.clients ≡ f.clients → Beside f g → journal ≡ client_entry actor (request.Read table key) (reply.Held by) ∷ past
+    → Took catalog loads journal g m actor (Client (request.Read table key)) (reply.Held by)
+read_held catalog loads past journal f g m actor txn table key by asks hinders clients beside is =
+    let inside = inside_here catalog loads past f m actor txn asks.holds asks.in_txn.inside in
+    let rests = rests_here catalog loads past f m txn asks.holds asks.in_txn.resting in
+    let meets = asks.holds.kept.manager_meets in
+    let named = holder-named (opened catalog loads f.managed.log) past f.managed txn table key Shared by asks.holds.kept.legal meets hinders.least in
+    client_took catalog loads past journal f g m actor (request.Read table key) (reply.Held by) asks.holds asks.comes (place_here catalog loads past f m (reply.Held by) asks.holds asks.place) (no_longer hinders.same.log) is
+    (sym (read-answered (opened catalog loads f.managed.log) past actor txn table key inside rests asks.good
+    ∙ ap (λ by. unless_held by (read_answer (row_now (opened catalog loads f.managed.log) past table key))) named))
+    (leaves-quiet (opened catalog loads f.managed.log) past f g (client_entry actor (request.Read table key) (reply.Held by)) asks.holds.kept hinders.same clients (quiet-held by)) beside
+
+-- whatever the manager answers to a read
+pub read_took : (catalog : List Declared) (loads : ℕ) (past journal : List Entry) (f g : Fields) (m : Machine) (actor txn : ℕ) (table : List ℕ) (key : List Value) (answer : TxnRead)
+    → AsksKey catalog loads past f m actor txn table key → AnswersRead f.managed g.managed txn table key answer → g.clients ≡ f.clients → Beside f g → journal ≡ client_entry actor (request.Read table key) (read_told answer) ∷ past
+    → Took catalog loads journal g m actor (Client (request.Read table key)) (read_told answer)
+read_took catalog loads past journal f g m actor txn table key (read.Row row) asks answers clients beside is = shown_took catalog loads past journal f g m actor txn table key (Some row) asks answers clients beside is
+read_took catalog loads past journal f g m actor txn table key read.Absent asks answers clients beside is = shown_took catalog loads past journal f g m actor txn table key None asks answers clients beside is
+read_took catalog loads past journal f g m actor txn table key (read.Held by) asks answers clients beside is = read_held catalog loads past journal f g m actor txn table key by asks answers clients beside is
+
+-- the row that was there before it is the one that it shows
+pub read_same : (old new : Managed) (txn : ℕ) (table : List ℕ) (key : List Value) (answer : TxnRead) (there : Option (List Value)) → AnswersRead old new txn table key answer → there ≡ row_left old.log table key → read_told_of answer there ≡ read_told answer
+read_same old new txn table key (read.Row row) there answers is = ap row_told (is ∙ answers.there)
+read_same old new txn table key read.Absent there answers is = ap row_told (is ∙ answers.there)
+read_same old new txn table key (read.Held by) there answers is = refl
+
+-- ** a change **
+
+-- a client of a live transaction asks for a change that its table admits
+pub record AsksChange (catalog : List Declared) (loads : ℕ) (past : List Entry) (f : Fields) (m : Machine) (actor txn : ℕ) (table : List ℕ) (change : Change) : Type 0 where
+  pub holds : Holds catalog loads past f m
+  pub comes : Comes m actor
+  pub place : HasPlace m
+  pub in_txn : IsInside m actor txn
+  pub good : IsGood (schema_of catalog table) (λ schema. change_fault schema change)
+
+-- the key that it is about
+abbrev pub key_asked : (catalog : List Declared) (loads : ℕ) (past : List Entry) (f : Fields) (m : Machine) (actor txn : ℕ) (table : List ℕ) (change : Change) → AsksChange catalog loads past f m actor txn table change → List Value
+key_asked catalog loads past f m actor txn table change asks = key_of_change asks.good.schema change
+
+-- an answer that changes nothing
+change_quiet : (catalog : List Declared) (loads : ℕ) (past journal : List Entry) (f g : Fields) (m : Machine) (actor txn : ℕ) (table : List ℕ) (change : Change) (answer : Reply)
+    → AsksChange catalog loads past f m actor txn table change → Unchanged f.managed g.managed → g.clients ≡ f.clients → Beside f g → journal ≡ client_entry actor (asked_for table change) answer ∷ past
+    → answer ≡ client_reply (opened catalog loads f.managed.log) past actor (asked_for table change) → effect answer ≡ Nothing
+    → Took catalog loads journal g m actor (Client (asked_for table change)) answer
+change_quiet catalog loads past journal f g m actor txn table change answer asks stays clients beside is answered quiet =
+    client_took catalog loads past journal f g m actor (asked_for table change) answer asks.holds asks.comes (place_here catalog loads past f m answer asks.holds asks.place) (no_longer stays.log) is answered
+    (leaves-quiet (opened catalog loads f.managed.log) past f g (client_entry actor (asked_for table change) answer) asks.holds.kept stays clients quiet) beside
+
+pub change_held : (catalog : List Declared) (loads : ℕ) (past journal : List Entry) (f g : Fields) (m : Machine) (actor txn : ℕ) (table : List ℕ) (change : Change) (by : ℕ)
+    → (asks : AsksChange catalog loads past f m actor txn table change) → Hinders f.managed g.managed txn table (key_of_change asks.good.schema change) Exclusive by → g.clients ≡ f.clients → Beside f g
+    → journal ≡ client_entry actor (asked_for table change) (reply.Held by) ∷ past → Took catalog loads journal g m actor (Client (asked_for table change)) (reply.Held by)
+change_held catalog loads past journal f g m actor txn table change by asks hinders clients beside is =
+    let inside = inside_here catalog loads past f m actor txn asks.holds asks.in_txn.inside in
+    let rests = rests_here catalog loads past f m txn asks.holds asks.in_txn.resting in
+    let key = key_of_change asks.good.schema change in
+    let named = holder-named (opened catalog loads f.managed.log) past f.managed txn table (key_of_change asks.good.schema change) Exclusive by asks.holds.kept.legal asks.holds.kept.manager_meets hinders.least in
+    change_quiet catalog loads past journal f g m actor txn table change (reply.Held by) asks hinders.same clients beside is
+    (sym (change-answered (opened catalog loads f.managed.log) past actor txn table change inside rests asks.good
+    ∙ ap (λ by. unless_held by (change_told (opened catalog loads f.managed.log) past change (row_now (opened catalog loads f.managed.log) past table (key_of_change asks.good.schema change)))) named))
+    (quiet-held by)
+
+-- what a change is answered that no lock hinders
+free_answered : (catalog : List Declared) (loads : ℕ) (past : List Entry) (f : Fields) (m : Machine) (actor txn : ℕ) (table : List ℕ) (change : Change)
+    → (asks : AsksChange catalog loads past f m actor txn table change) → holder catalog past txn table (key_of_change asks.good.schema change) Exclusive ≡ None
+    → client_reply (opened catalog loads f.managed.log) past actor (asked_for table change) ≡ change_told (opened catalog loads f.managed.log) past change (row_left f.managed.log table (key_of_change asks.good.schema change))
+free_answered catalog loads past f m actor txn table change asks free =
+    let inside = inside_here catalog loads past f m actor txn asks.holds asks.in_txn.inside in
+    let rests = rests_here catalog loads past f m txn asks.holds asks.in_txn.resting in
+    change-answered (opened catalog loads f.managed.log) past actor txn table change inside rests asks.good
+    ∙ ap (λ by. unless_held by (change_told (opened catalog loads f.managed.log) past change (row_now (opened catalog loads f.managed.log) past table (key_of_change asks.good.schema change)))) free
+    ∙ ap (λ l. change_told (opened catalog loads f.managed.log) past change (row_left l table (key_of_change asks.good.schema change))) (sym asks.holds.kept.manager_meets.log_is)
+
+pub change_exists : (catalog : List Declared) (loads : ℕ) (past journal : List Entry) (f g : Fields) (m : Machine) (actor txn : ℕ) (table : List ℕ) (change : Change)
+    → (asks : AsksChange catalog loads past f m actor txn table change) → Refuses f.managed g.managed txn table (key_of_change asks.good.schema change) change write.Exists → g.clients ≡ f.clients → Beside f g
+    → journal ≡ client_entry actor (asked_for table change) reply.Exists ∷ past → Took catalog loads journal g m actor (Client (asked_for table change)) reply.Exists
+change_exists catalog loads past journal f g m actor txn table change asks refuses clients beside is =
+    let free = holder-none (opened catalog loads f.managed.log) past f.managed txn table (key_of_change asks.good.schema change) Exclusive asks.holds.kept.manager_meets refuses.free in
+    change_quiet catalog loads past journal f g m actor txn table change reply.Exists asks refuses.same clients beside is
+    (sym (free_answered catalog loads past f m actor txn table change asks free ∙ told-exists (opened catalog loads f.managed.log) past change (row_left f.managed.log table (key_of_change asks.good.schema change)) refuses.refused))
+    quiet-exists
+
+pub change_missing : (catalog : List Declared) (loads : ℕ) (past journal : List Entry) (f g : Fields) (m : Machine) (actor txn : ℕ) (table : List ℕ) (change : Change)
+    → (asks : AsksChange catalog loads past f m actor txn table change) → Refuses f.managed g.managed txn table (key_of_change asks.good.schema change) change write.Missing → g.clients ≡ f.clients → Beside f g
+    → journal ≡ client_entry actor (asked_for table change) reply.Missing ∷ past → Took catalog loads journal g m actor (Client (asked_for table change)) reply.Missing
+change_missing catalog loads past journal f g m actor txn table change asks refuses clients beside is =
+    let free = holder-none (opened catalog loads f.managed.log) past f.managed txn table (key_of_change asks.good.schema change) Exclusive asks.holds.kept.manager_meets refuses.free in
+    change_quiet catalog loads past journal f g m actor txn table change reply.Missing asks refuses.same clients beside is
+    (sym (free_answered catalog loads past f m actor txn table change asks free ∙ told-missing (opened catalog loads f.managed.log) past change (row_left f.managed.log table (key_of_change asks.good.schema change)) refuses.refused))
+    quiet-missing
+
+leaves-written : (o : Opening) (past : List Entry) (f g : Fields) (actor txn : ℕ) (table : List ℕ) (change : Change) (layout : Layout) (lsn : ℕ) → IsKept o past f → schema_of o.catalog table ≡ Some layout
+    → ManagerWrites f.managed g.managed txn table (key_of_change layout change) (image_of change) lsn → txn_of past actor ≡ Some txn → g.clients ≡ f.clients
+    → ClientLeaves o past f g (client_entry actor (asked_for table change) (reply.Done lsn))
+leaves-written o past f g actor txn table change layout lsn kept declared writes inside clients =
+    let told = effect-done lsn in
+    record {
+      manager = meets-written o past f.managed g.managed (client_entry actor (asked_for table change) (reply.Done lsn)) txn table (key_of_change layout change) (image_of change) lsn kept.manager_meets writes told inside
+          (change-key o.catalog table layout change declared) (change-record o.catalog (log_of o past) txn table layout change declared);
+      clients = clients ∙ kept.clients_are ∙ sym (living_by past (client_entry actor (asked_for table change) (reply.Done lsn)) Writes told);
+      phase = phase_by past (client_entry actor (asked_for table change) (reply.Done lsn)) Writes told;
+      started = started_told past (client_entry actor (asked_for table change) (reply.Done lsn)) Writes told;
+    }
+
+pub change_done : (catalog : List Declared) (loads : ℕ) (past journal : List Entry) (f g : Fields) (m : Machine) (actor txn : ℕ) (table : List ℕ) (change : Change) (lsn : ℕ)
+    → (asks : AsksChange catalog loads past f m actor txn table change) → Makes f.managed g.managed txn table (key_of_change asks.good.schema change) change lsn → g.clients ≡ f.clients → Beside f g
+    → journal ≡ client_entry actor (asked_for table change) (reply.Done lsn) ∷ past → Took catalog loads journal g m actor (Client (asked_for table change)) (reply.Done lsn)
+change_done catalog loads past journal f g m actor txn table change lsn asks makes clients beside is =
+    let inside = inside_here catalog loads past f m actor txn asks.holds asks.in_txn.inside in
+    let meets = asks.holds.kept.manager_meets in
+    let next = next_there (opened catalog loads f.managed.log) past f.managed lsn meets makes.writes.place in
+    let free = holder-none (opened catalog loads f.managed.log) past f.managed txn table (key_of_change asks.good.schema change) Exclusive meets makes.writes.locks.free in
+    client_took catalog loads past journal f g m actor (asked_for table change) (reply.Done lsn) asks.holds asks.comes (place_here catalog loads past f m (reply.Done lsn) asks.holds asks.place)
+    (by_one (record { txn = txn; body = Write table (key_of_change asks.good.schema change) (row_left f.managed.log table (key_of_change asks.good.schema change)) (image_of change) }) makes.writes.log) is
+    (ap reply.Done next ∙ sym (free_answered catalog loads past f m actor txn table change asks free ∙ told-done (opened catalog loads f.managed.log) past change (row_left f.managed.log table (key_of_change asks.good.schema change)) makes.allowed))
+    (leaves-written (opened catalog loads f.managed.log) past f g actor txn table change asks.good.schema lsn asks.holds.kept asks.good.declared makes.writes inside clients) beside
+
+-- whatever the manager answers to a change
+changed_took : (catalog : List Declared) (loads : ℕ) (past journal : List Entry) (f g : Fields) (m : Machine) (actor txn : ℕ) (table : List ℕ) (change : Change) (answer : TxnWrite)
+    → (asks : AsksChange catalog loads past f m actor txn table change) → AnswersAt f.managed g.managed txn table (key_of_change asks.good.schema change) change answer → g.clients ≡ f.clients → Beside f g
+    → journal ≡ client_entry actor (asked_for table change) (write_told answer) ∷ past → Took catalog loads journal g m actor (Client (asked_for table change)) (write_told answer)
+changed_took catalog loads past journal f g m actor txn table change (write.Done lsn) asks answers clients beside is = change_done catalog loads past journal f g m actor txn table change lsn asks answers clients beside is
+changed_took catalog loads past journal f g m actor txn table change (write.Held by) asks answers clients beside is = change_held catalog loads past journal f g m actor txn table change by asks answers clients beside is
+changed_took catalog loads past journal f g m actor txn table change write.Exists asks answers clients beside is = change_exists catalog loads past journal f g m actor txn table change asks answers clients beside is
+changed_took catalog loads past journal f g m actor txn table change write.Missing asks answers clients beside is = change_missing catalog loads past journal f g m actor txn table change asks answers clients beside is
+
+-- the schemas of the manager's tables are the declared ones
+schema_shape : (catalog : List Declared) (table : List ℕ) → schema_in (shapes_of catalog) table ≡ schema_of catalog table
+schema_shape [] table = refl
+schema_shape (d ∷ catalog) table = by_cases (same_name d.name table) (λ t. rw t refl) (λ f. rw f (schema_shape catalog table))
+
+pub schema_there : (catalog : List Declared) (loads : ℕ) (past : List Entry) (f : Fields) (m : Machine) (table : List ℕ) → Holds catalog loads past f m → schema_in f.managed.shapes table ≡ schema_of catalog table
+schema_there catalog loads past f m table holds = ap (λ shapes. schema_in shapes table) holds.kept.manager_meets.shapes ∙ schema_shape catalog table
+
+pub write_took : (catalog : List Declared) (loads : ℕ) (past journal : List Entry) (f g : Fields) (m : Machine) (actor txn : ℕ) (table : List ℕ) (change : Change) (answer : TxnWrite)
+    → (asks : AsksChange catalog loads past f m actor txn table change) → AnswersWrite f.managed g.managed txn table change answer → g.clients ≡ f.clients → Beside f g
+    → journal ≡ client_entry actor (asked_for table change) (write_told answer) ∷ past → Took catalog loads journal g m actor (Client (asked_for table change)) (write_told answer)
+write_took catalog loads past journal f g m actor txn table change answer asks answers clients beside is =
+    changed_took catalog loads past journal f g m actor txn table change answer asks (answers asks.good.schema (schema_there catalog loads past f m table asks.holds ∙ asks.good.declared)) clients beside is
+
+fits : (layout : Layout) (change : Change) → change_fault layout change ≡ None → FitsSchema layout change
+fits layout (Insert row) good = good
+fits layout (Replace row) good = good
+fits layout (Delete key) good = tt
+
+-- the manager can be asked for it
+pub can_change : (catalog : List Declared) (loads : ℕ) (past : List Entry) (f : Fields) (m : Machine) (table : List ℕ) (change : Change) → Holds catalog loads past f m → IsGood (schema_of catalog table) (λ schema. change_fault schema change) → CanChange f.managed.shapes table change
+can_change catalog loads past f m table change holds good = record { layout = good.schema; there = schema_there catalog loads past f m table holds ∙ good.declared; fits = fits good.schema change good.admitted }
+
+pub table_is_there : (catalog : List Declared) (loads : ℕ) (past : List Entry) (f : Fields) (m : Machine) (table : List ℕ) (key : List Value) → Holds catalog loads past f m → IsGood (schema_of catalog table) (λ schema. key_fault schema key) → IsSome (schema_in f.managed.shapes table)
+table_is_there catalog loads past f m table key holds good = subst IsSome (sym (schema_there catalog loads past f m table holds ∙ good.declared)) refl
+
+-- the table of a declared name is among those that the manager lends
+named_there : (catalog : List Declared) (log : List Rec) (tables : List NamedTable) (table : List ℕ) (d : Declared) → AreTables log (shapes_of catalog) tables → declared_as catalog table ≡ Some d → IsSome (table_named tables table)
+named_there catalog log tables table d meet declared = subst IsSome (sym (meets_named catalog log tables table d meet declared).found) refl
+
+lent_meet : (catalog : List Declared) (loads : ℕ) (past : List Entry) (f : Fields) (m : Machine) (lent : List NamedTable) → Holds catalog loads past f m → AreTables f.managed.log f.managed.shapes lent → AreTables f.managed.log (shapes_of catalog) lent
+lent_meet catalog loads past f m lent holds meet = subst (λ shapes. AreTables f.managed.log shapes lent) holds.kept.manager_meets.shapes meet
+
+pub table_is_named : (catalog : List Declared) (loads : ℕ) (past : List Entry) (f : Fields) (m : Machine) (lent : List NamedTable) (table : List ℕ) (key : List Value) → Holds catalog loads past f m → AreTables f.managed.log f.managed.shapes lent
+    → IsGood (schema_of catalog table) (λ schema. key_fault schema key) → IsSome (table_named lent table)
+table_is_named catalog loads past f m lent table key holds meet good = by (declared_as catalog table) refl good.declared
+  where
+    by : (answer : Option Declared) → declared_as catalog table ≡ answer → option_map (λ (d : Declared). d.schema) answer ≡ Some good.schema → IsSome (table_named lent table)
+    by None none declared = absurd (cc)
+    by (Some d) is declared = named_there catalog f.managed.log lent table d (lent_meet catalog loads past f m lent holds meet) is
+
+-- the row that the lent table has is the one that the log leaves
+pub row_shown : (catalog : List Declared) (loads : ℕ) (past : List Entry) (f : Fields) (m : Machine) (lent : List NamedTable) (table : List ℕ) (key : List Value) (row : Option (List Value)) → Holds catalog loads past f m → AreTables f.managed.log f.managed.shapes lent
+    → IsSomeAnd (table_named lent table) (λ found. row ≡ option_map (λ (s : List Value × ℕ). s.0) (row_at found.rows key)) → row ≡ row_left f.managed.log table key
+row_shown catalog loads past f m lent table key row holds meet shown = by (table_named lent table) refl shown
+  where
+    by : (found : Option Relation) → table_named lent table ≡ found → IsSomeAnd found (λ found. row ≡ option_map (λ (s : List Value × ℕ). s.0) (row_at found.rows key)) → row ≡ row_left f.managed.log table key
+    by None none shown = absurd shown
+    by (Some source) is shown = shown ∙ ap (option_map (λ (s : List Value × ℕ). s.0)) (found_meets catalog f.managed.log lent table source (lent_meet catalog loads past f m lent holds meet) is key)

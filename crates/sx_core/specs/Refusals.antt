@@ -1,0 +1,53 @@
+-- What a client's read or change is refused with by the schema of its table, and what the manager's answers tell.
+use Rattle.std.specs.Prelude.{List, Option, Some, None, option_map}
+use Rattle.sx_values.specs.declared.value.Value.{Value}
+use Rattle.sx_values.specs.declared.schema.BadRow.{BadRow}
+use Rattle.sx_values.specs.Layouts.{Layout, row_fault, key_fault}
+use Rattle.sx_txn.specs.declared.answers.Change.{Change}
+use Rattle.sx_txn.specs.declared.answers.Change.TheVariants.{Insert, Replace, Delete}
+use Rattle.sx_txn.specs.declared.answers.TxnRead.{TxnRead}
+use Rattle.sx_txn.specs.declared.answers.TxnRead.TheVariants as read
+use Rattle.sx_txn.specs.declared.answers.TxnWrite.{TxnWrite}
+use Rattle.sx_txn.specs.declared.answers.TxnWrite.TheVariants as write
+use Rattle.sx_journal.specs.declared.entry.Reply.{Reply}
+use Rattle.sx_journal.specs.declared.entry.Reply.TheVariants as reply
+
+-- a key of a table that isn't declared, or one that the schema doesn't admit
+abbrev pub key_refused : Option Layout → List Value → Option Reply
+key_refused None key = Some reply.NoTable
+key_refused (Some layout) key = option_map reply.BadRow (key_fault layout key)
+
+-- why a schema doesn't admit a change
+abbrev pub change_fault : Layout → Change → Option BadRow
+change_fault layout (Insert row) = row_fault layout row
+change_fault layout (Replace row) = row_fault layout row
+change_fault layout (Delete key) = key_fault layout key
+
+-- the same of a change
+abbrev pub change_refused : Option Layout → Change → Option Reply
+change_refused None change = Some reply.NoTable
+change_refused (Some layout) change = option_map reply.BadRow (change_fault layout change)
+
+-- a row, or that there is none
+abbrev pub row_told : Option (List Value) → Reply
+row_told (Some row) = reply.Row row
+row_told None = reply.Absent
+
+-- what the manager's answer to a read tells
+abbrev pub read_told : TxnRead → Reply
+read_told (read.Row row) = reply.Row row
+read_told read.Absent = reply.Absent
+read_told (read.Held by) = reply.Held by
+
+-- the same, with the row that was there before it
+abbrev pub read_told_of : TxnRead → Option (List Value) → Reply
+read_told_of (read.Row row) there = row_told there
+read_told_of read.Absent there = row_told there
+read_told_of (read.Held by) there = reply.Held by
+
+-- what the manager's answer to a change tells
+abbrev pub write_told : TxnWrite → Reply
+write_told (write.Done lsn) = reply.Done lsn
+write_told (write.Held by) = reply.Held by
+write_told write.Exists = reply.Exists
+write_told write.Missing = reply.Missing

@@ -1,0 +1,7 @@
+pub mod AgainLaws
+pub mod ColumnLaws
+pub mod DraftLaws
+pub mod FieldLaws
+pub mod NameLaws
+pub mod PartLaws
+pub mod SpecLaws

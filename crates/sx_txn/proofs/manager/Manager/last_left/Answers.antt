@@ -1,0 +1,12 @@
+use Rattle.std.proofs.Common.{◌∙◌, ap, List}
+use Rattle.sx_txn.specs.declared.lives.Live.{Live}
+use Rattle.sx_txn.specs.Writes.{first_of}
+use Rattle.sx_txn.specs.Lives.{kept_all, writes_of}
+use Rattle.sx_txn.proofs.PutLemmas.{last_is}
+use Rattle.sx_txn.proofs.manager.Manager.last_left.Goals as goal
+
+pub returns : goal.returns
+returns c =
+    let i = c.self.inside in
+    c.last_write.ensures ∙ ap (λ (l : List Live). first_of (writes_of (kept_all l) c.args.txn)) c.deref.ensures.value
+    ∙ last_is i.tables i.log i.locks (kept_all i.living.items) i.begun c.args.txn c.args.self.now c.self.view_is c.self.invariant c.requires

@@ -1,0 +1,7 @@
+pub mod Answers
+pub mod Kept
+pub mod Lives
+pub mod Managed
+pub mod Patches
+pub mod Turns
+pub mod Writes
