@@ -9,6 +9,7 @@ use crate::fields::{key_shown, row_shown, spec_shown};
 use crate::text::{behind, named, parted, same_bytes};
 use std::alloc::{AllocError, Global};
 use sx_journal::{Request, What};
+use sx_lists::Copied;
 use sx_values::{Catalog, Key, Name, Row};
 
 /// What a line shows, by the tables that are declared before it.
@@ -185,13 +186,13 @@ fn row_in(alloc: Global, catalog: &Catalog, text: &[u8]) -> Result<Option<(Name,
     let Some((table, record)) = named(alloc, text)? else {
         return Ok(None);
     };
-    let Some(schema) = catalog.schema(&table) else {
+    let Some(found) = catalog.find(&table) else {
         return Ok(None);
     };
-    let Some(row) = row_shown(alloc, schema, record)? else {
+    let Some(row) = row_shown(alloc, &found.schema, record)? else {
         return Ok(None);
     };
-    Ok(Some((table, row)))
+    Ok(Some((found.name.copy(alloc)?, row)))
 }
 
 // A declared table's name and a key of its key's columns.
@@ -202,11 +203,11 @@ fn key_in(alloc: Global, catalog: &Catalog, text: &[u8]) -> Result<Option<(Name,
     let Some((table, record)) = named(alloc, text)? else {
         return Ok(None);
     };
-    let Some(schema) = catalog.schema(&table) else {
+    let Some(found) = catalog.find(&table) else {
         return Ok(None);
     };
-    let Some(key) = key_shown(alloc, schema, record)? else {
+    let Some(key) = key_shown(alloc, &found.schema, record)? else {
         return Ok(None);
     };
-    Ok(Some((table, key)))
+    Ok(Some((found.name.copy(alloc)?, key)))
 }

@@ -1,4 +1,5 @@
 pub mod Committed
+pub mod Copies
 pub mod Rows
 pub mod State
 pub mod Undoing

@@ -1,5 +1,5 @@
 -- Worked examples of the answers and of the schedule, by computation: two clients on one row, an undo, and a client that gives up.
-use Rattle.std.proofs.Common.{◌≡◌, ◌+◌, ℕ, List, [], ◌∷◌, ◌++◌, Option, Some, None, refl, true, false}
+use Rattle.std.proofs.Common.{◌≡◌, ℕ, List, [], ◌∷◌, ◌++◌, Option, Some, None, refl, true, false}
 use Rattle.std.specs.Prelude.{codes, replicate}
 use Rattle.sx_values.specs.declared.value.Value.{Value}
 use Rattle.sx_values.specs.declared.value.Value.TheVariants.{Text, Null}

@@ -1,4 +1,5 @@
 pub mod AllLaws
+pub mod ConvergenceLaws
 pub mod EndingLaws
 pub mod EntryLaws
 pub mod Examples

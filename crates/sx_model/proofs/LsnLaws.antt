@@ -23,11 +23,11 @@ pub record IsRecordOf (log : List Rec) (table : List ℕ) (key row : List Value)
   pub about : is_about rec.body table key ≡ true
   pub image : image_of rec.body ≡ Some row
 
-record Halves (lsn n : ℕ) (image : Option (List Value)) (row : List Value) : Type 0 where
-  same_lsn : lsn ≡ n
-  same_row : image ≡ Some row
+pub record Halves (lsn n : ℕ) (image : Option (List Value)) (row : List Value) : Type 0 where
+  pub same_lsn : lsn ≡ n
+  pub same_row : image ≡ Some row
 
-halves : (lsn n : ℕ) (image : Option (List Value)) (row : List Value) → stored n image ≡ Some (row, lsn) → Halves lsn n image row
+pub halves : (lsn n : ℕ) (image : Option (List Value)) (row : List Value) → stored n image ≡ Some (row, lsn) → Halves lsn n image row
 halves lsn n None row e = absurd (cc)
 halves lsn n (Some r) row e =
     let pair : ◌≡◌ {A = Stored} (r, n) (row, lsn) = cc in

@@ -1,3 +1,4 @@
+pub mod Befores
 pub mod Clients
 pub mod Effects
 pub mod Held

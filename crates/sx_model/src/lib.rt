@@ -2,13 +2,14 @@
 //! The definitions stand in `specs/`; the functions here have no bodies and state laws about them.
 #![tactic(auto)]
 
-ghost use Rattle.std.specs.Prelude.{◌≡◌, ◌≢◌, ◌≤◌, ◌+◌, true, false, ℕ, List, [], ◌∷◌, length, ◌↔◌, Some, None};
+ghost use Rattle.std.specs.Prelude.{◌≡◌, ◌≢◌, ◌≤◌, ◌+◌, true, false, ℕ, List, [], ◌∷◌, ◌++◌, length, ◌↔◌, Some, None};
 ghost use Rattle.std.specs.List.{AllByRecursion};
 ghost use Rattle.sx_values.specs.declared.value.Value.{Value};
 ghost use Rattle.sx_values.specs.declared.catalog.Declared.{Declared};
 ghost use Rattle.sx_log.specs.declared.record.Rec.{Rec};
 ghost use Rattle.sx_log.specs.declared.record.Load.{Load};
 ghost use Rattle.sx_log.specs.State.{state_at, row_left};
+ghost use Rattle.sx_log.specs.Copies.{redone};
 ghost use Rattle.sx_log.specs.Committed.{commits, committed};
 ghost use Rattle.sx_sync.specs.declared.Phase.TheVariants.{Idle, Chasing, Draining};
 ghost use Rattle.sx_journal.specs.declared.entry.Entry.{Entry};
@@ -16,6 +17,7 @@ ghost use Rattle.sx_journal.specs.declared.entry.Request.{Request};
 ghost use Rattle.sx_journal.specs.declared.entry.Reply.TheVariants as reply;
 ghost use Rattle.sx_journal.specs.Courses.{index_of};
 ghost use Rattle.sx_model.specs.Openings.{Opening, opening};
+ghost use Rattle.sx_model.specs.Befores.{KeepsBefore};
 ghost use Rattle.sx_model.specs.LoadRecords.{IsOpened};
 ghost use Rattle.sx_model.specs.Leaves.{Started, living, begun, started, phase};
 ghost use Rattle.sx_model.specs.Clients.{IsClient, AreLiving};
@@ -65,6 +67,12 @@ pub fn a_whole_scan_reads_the_state()
 /// And so it covers the table, from each Mark on.
 pub fn a_whole_scan_covers()
     ensures { (log : List Rec) (mark : ℕ) (lsns table : List ℕ) → mark ≤ length log → AllByRecursion (IsRowNow log table) lsns → SawAll log lsns table → Covers log mark lsns table }
+{}
+
+/// What was read of a key at some place from the Mark on, followed by every record behind the Mark, is its state, where
+/// each record's image before is the row that was there.
+pub fn redo_converges()
+    ensures { (newer log : List Rec) (mark : ℕ) (table : List ℕ) (key : List Value) → mark ≤ length log → KeepsBefore (newer ++ log) table key → redone (newer ++ log) mark table key (state_at log table key) ≡ state_at (newer ++ log) table key }
 {}
 
 /// In a legal journal the live transactions are of different clients from 1 to 8, and have different numbers from 1 to

@@ -1,5 +1,7 @@
 -- The steps of a catalog: a table more, and an index more.
-use Rattle.std.proofs.Common.{◌≡◌, ◌≤◌, ◌<◌, ◌+◌, ◌++◌, ◌&&◌, ◌||◌, ℕ, suc, Bool, true, false, not, cond, List, [], ◌∷◌, length, get_or, set, position, Option, Some, None, Result, Ok, Err, IfSome, is_some, nat_le, All, OnOk, OnErr, refl, sym, ap, ◌∙◌, subst, arith, nat_lt, if◌then◌else◌, slice_get}
+use Rattle.std.proofs.Common.{◌≡◌, ◌≤◌, ◌<◌, ◌+◌, ◌++◌, ◌&&◌, ◌||◌, ℕ, suc, Bool, true, false, not, cond, List, [], ◌∷◌, length, get_or, set, position, Option, Some, None, Result, Ok, Err, IfSome, is_some, nat_le, All, OnOk, OnErr, refl, sym, ap, ◌∙◌, subst, arith, nat_lt, if◌then◌else◌, slice_get, Bor}
+use Rattle.std.specs.Option.{option_copied}
+use Rattle.sx_values.proofs.KeyLaws.{same_name_tells}
 use Rattle.std.specs.List.{list_all, list_any, prefix_len, IsDistinct}
 use Rattle.std.specs.Cmp.Lexicographic.{nat_list_eq_equiv}
 use Rattle.std.proofs.lemmas.List.{set-get_or, map-append}
@@ -60,6 +62,20 @@ no_place a b false d f = grind (arith, nat_tests)
 
 pub not_found : (tables : List Declared) (name : List ℕ) → position (λ (t : Declared). same_name t.name name) tables ≡ None → declared_as tables name ≡ None
 not_found tables name e = none_by tables name (no_place (prefix_len (other name) tables) (length tables) (nat_lt (prefix_len (other name) tables) (length tables)) refl e)
+
+named_step : (b : Bool) (t : Declared) (name : List ℕ) (rest : Option Declared) → same_name t.name name ≡ b → IfSome rest (λ (u : Declared). u.name ≡ name) → IfSome (if b then Some t else rest) (λ (u : Declared). u.name ≡ name)
+named_step true t name rest e r = same_name_tells t.name name e
+named_step false t name rest e r = r
+
+-- the table of a name has it
+pub named_so : (tables : List Declared) (name : List ℕ) → IfSome (declared_as tables name) (λ (u : Declared). u.name ≡ name)
+named_so [] name = tt
+named_so (t ∷ ts) name = named_step (same_name t.name name) t name (declared_as ts name) refl (named_so ts name)
+
+-- and so has the one that a reference shows
+pub named_shown : (tables : List Declared) (name : List ℕ) (shown : Option (Bor Declared)) → option_copied shown ≡ declared_as tables name → IfSome shown (λ table. table.now.name ≡ name)
+named_shown tables name None e = tt
+named_shown tables name (Some table) e = subst (λ o. IfSome o (λ (u : Declared). u.name ≡ name)) (sym e) (named_so tables name)
 
 -- ---- a table more
 

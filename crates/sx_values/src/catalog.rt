@@ -1,5 +1,5 @@
 // The catalog of declared tables.
-ghost use Rattle.std.specs.Prelude.{◌≡◌, ◌∷◌, ◌++◌, [], OnErr, OnOk, position};
+ghost use Rattle.std.specs.Prelude.{◌≡◌, ◌∷◌, ◌++◌, [], OnErr, OnOk, IfSome, position};
 ghost use Rattle.std.specs.List.{list_all};
 ghost use Rattle.std.specs.Option.{option_copied};
 ghost use Rattle.sx_lists.specs.Answers.{RefusesBy};
@@ -100,6 +100,14 @@ impl Catalog {
             return Err(CatalogFault::NoTable);
         };
         add_index(&mut self.tables[place], columns)
+    }
+
+    /// The table of this name, or None where there is none.
+    pub fn find(&self, name: &Name) -> Option<&Declared>
+        ensures found { option_copied result ≡ declared_as self.now name.now }
+        ensures named { IfSome result (λ table. table.now.name ≡ name.now) }
+    {
+        table_of(&self.tables, name)
     }
 
     /// The schema of the table of this name, or None where there is none.

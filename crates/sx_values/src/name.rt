@@ -1,16 +1,22 @@
 // Names of tables and columns.
 ghost use Rattle.std.specs.Prelude.{◌≡◌, ◌↔◌, IfOk, IsTrue, OnOk, not, Result, Err};
+ghost use Rattle.std.specs.Prelude.{Some, nat_eq, refl};
 ghost use Rattle.std.specs.List.{list_all};
+ghost use Rattle.std.specs.Ordering.{nat_cmp};
+ghost use Rattle.std.specs.Cmp.{partial_equiv_from_equiv};
+ghost use Rattle.std.specs.Cmp.Lexicographic.{pointwise, slice_cmp, nat_list_cmp_total, nat_list_eq_equiv, texts_po, texts_ties};
 ghost use Rattle.sx_values.specs.Texts.{is_name, is_lower, is_name_byte};
 
 use std::alloc::{AllocError, Global};
+use std::cmp::Ordering;
 use std::marker::Model;
+use std::sync::Arc;
 use sx_lists::{Copied, List, Same, bytes_of};
 
-/// A lower-case letter followed by up to 31 lower-case letters, digits and underscores.
-#[derive(Debug, Drop, PartialEq, Eq, PartialOrd, Ord)]
+/// A lower-case letter followed by up to 31 lower-case letters, digits and underscores. Its copies share its bytes.
+#[derive(Debug, Drop)]
 pub struct Name {
-    bytes: List<u8>,
+    bytes: Arc<List<u8>>,
 }
 
 impl Model for Name {
@@ -23,11 +29,9 @@ impl Model for Name {
 
     ghost coded = { coded_list coded_ℕ };
 
-    ghost view = { λ n. n.bytes };
+    ghost view = { λ n. n.bytes.value };
 
-    ghost invariant = { λ n. IsTrue (is_name n.bytes) };
-
-    ghost inverse = { λ bytes. record { bytes = bytes } };
+    ghost invariant = { λ n. IsTrue (is_name n.bytes.value) };
 }
 
 /// Why bytes are no name.
@@ -49,7 +53,7 @@ impl Name {
         if !is_name(bytes) {
             return Err(NameFault::BadName);
         }
-        match bytes_of(alloc, bytes) {
+        match shared(alloc, bytes) {
             Ok(bytes) => Ok(Name { bytes }),
             Err(_) => Err(NameFault::Memory),
         }
@@ -64,16 +68,64 @@ impl Name {
     }
 }
 
+impl PartialEq for Name {
+    ghost eq = { pointwise nat_eq };
+
+    ghost laws = { partial_equiv_from_equiv nat_list_eq_equiv };
+
+    fn eq(&self, other: &Self) -> bool {
+        *self.bytes == *other.bytes
+    }
+}
+
+impl Eq for Name {
+    ghost laws = { nat_list_eq_equiv };
+}
+
+impl PartialOrd for Name {
+    ghost partial_cmp = { λ name other. Some (slice_cmp nat_cmp name other) };
+
+    ghost laws = { texts_po };
+
+    fn partial_cmp(&self, other: &Self) -> Option<Ordering> {
+        Some(self.cmp(other))
+    }
+}
+
+impl Ord for Name {
+    ghost cmp = { slice_cmp nat_cmp };
+
+    ghost total = { nat_list_cmp_total };
+
+    ghost matches_partial_cmp = { λ name other. refl };
+
+    ghost matches_eq = { λ name other. texts_ties name other };
+
+    fn cmp(&self, other: &Self) -> Ordering {
+        (*self.bytes).cmp(&*other.bytes)
+    }
+}
+
 impl Copied for Name {
-    fn copy(&self, alloc: Global) -> Result<Self, AllocError> {
-        let bytes = bytes_of(alloc, self.bytes.as_slice())?;
+    fn copy(&self, _alloc: Global) -> Result<Self, AllocError> {
+        let bytes = self.bytes.clone()?;
         Ok(Name { bytes })
     }
 }
 
 impl Same for Name {
     fn is_same(&self, other: &Self) -> bool {
-        self.bytes.is_same(&other.bytes)
+        (*self.bytes).is_same(&*other.bytes)
+    }
+}
+
+// The bytes, to be shared.
+fn shared(alloc: Global, bytes: &[u8]) -> Result<Arc<List<u8>>, AllocError>
+    ensures { IfOk result (λ shared. shared.value ≡ bytes.now) }
+{
+    match Arc::new(alloc, bytes_of(alloc, bytes)?) {
+        Ok(shared) => Ok(shared),
+        Err(_) => Err(AllocError),
     }
 }
 
