@@ -1,14 +1,16 @@
 // The top call: from words and bytes to bytes and a status.
-ghost use Rattle.std.specs.Prelude.{◌≡◌, ◌↔◌, IsTrue, None, map, string_bytes};
+ghost use Rattle.std.specs.Prelude.{◌≡◌, ◌↔◌, IsTrue, ℕ, List, Some, None, map, string_bytes};
+ghost use Rattle.sx_script.specs.Reading.{script_read};
 ghost use Rattle.shiftrun.specs.Outputs.{IsStep};
 ghost use Rattle.shiftrun.specs.Endings.{Ends, EndsWith, StepEnds, PutsOut, PutsRun};
 
 use crate::run::{Run, run_script};
 use crate::status::Status;
 use std::alloc::{AllocError, Global};
+use std::mem;
 use sx_core::Core;
 use sx_io::{ReadFault, Sink, Source, WriteFault, read_all, write_all};
-use sx_script::{ScriptFault, parse_script};
+use sx_script::{Script, ScriptFault, parse_script};
 
 /// A word of the command line.
 pub type Word = String;
@@ -80,12 +82,30 @@ fn step<K: Sink>(alloc: Global, bytes: &[u8], sink: &mut K, kept: &mut Option<Co
     ensures { StepEnds bytes.now (K.written sink.old) (K.written sink.new) (K.faults sink.old) (K.faults sink.new) kept.new result }
 {
     match parse_script(alloc, bytes) {
-        Ok(script) => match run_script(alloc, &script) {
-            Ok(run) => put_run(run, sink, kept),
-            Err(AllocError) => Status::Memory,
-        },
+        Ok(script) => {
+            let status = run_read(alloc, &script, sink, kept);
+            // A process runs one script: the lines go with its memory, and needn't be given back one by one.
+            mem::forget(script);
+            status
+        }
         Err(ScriptFault::Memory) => Status::Memory,
         Err(ScriptFault::Bad { .. }) => put(sink, b"fault 0 later\n", Status::Refused),
+    }
+}
+
+// Runs a script that was read, and puts its report out.
+fn run_read<K: Sink>(
+    alloc: Global,
+    script: &Script,
+    sink: &mut K,
+    kept: &mut Option<Core>,
+) -> Status
+    requires { kept.old ≡ None }
+    ensures { (bytes : List ℕ) → script_read bytes ≡ Some script.now → StepEnds bytes (K.written sink.old) (K.written sink.new) (K.faults sink.old) (K.faults sink.new) kept.new result }
+{
+    match run_script(alloc, script) {
+        Ok(run) => put_run(run, sink, kept),
+        Err(AllocError) => Status::Memory,
     }
 }
 

@@ -1,10 +1,10 @@
 -- A client's turn, outcome by outcome: from what the manager answers to what the fields keep.
-use Rattle.std.proofs.Common.{◌≡◌, ◌≤◌, ◌+◌, ◌∷◌, [], ℕ, false, List, length, Option, Some, None, refl, sym, ◌∙◌, ap, subst, inl, inr, IsSome, IsSomeAnd, option_map}
+use Rattle.std.proofs.Common.{◌≡◌, ◌≤◌, ◌+◌, ◌∷◌, [], ℕ, false, List, length, Option, Some, None, refl, sym, ◌∙◌, ap, subst, inl, inr, IsSome}
 use Rattle.sx_values.specs.declared.value.Value.{Value}
 use Rattle.sx_values.specs.declared.catalog.Declared.{Declared}
 use Rattle.sx_values.specs.Layouts.{Layout, key_fault}
 use Rattle.sx_values.specs.Names.{same_name}
-use Rattle.sx_values.specs.Catalogs.{declared_as, schema_of}
+use Rattle.sx_values.specs.Catalogs.{schema_of}
 use Rattle.sx_log.specs.declared.record.Rec.{Rec}
 use Rattle.sx_log.specs.declared.record.Body.TheVariants.{Write, Commit, Abort}
 use Rattle.sx_log.specs.State.{row_left}
@@ -16,10 +16,7 @@ use Rattle.sx_txn.specs.declared.answers.TxnRead.{TxnRead}
 use Rattle.sx_txn.specs.declared.answers.TxnRead.TheVariants as read
 use Rattle.sx_txn.specs.declared.answers.TxnWrite.{TxnWrite}
 use Rattle.sx_txn.specs.declared.answers.TxnWrite.TheVariants as write
-use Rattle.sx_heap.specs.declared.tables.NamedTable.{NamedTable}
-use Rattle.sx_heap.specs.Relations.{Relation, row_at}
-use Rattle.sx_heap.specs.NamedTables.{table_named}
-use Rattle.sx_txn.specs.Managed.{Managed, AreTables, Unchanged, schema_in}
+use Rattle.sx_txn.specs.Managed.{Unchanged, schema_in}
 use Rattle.sx_txn.specs.Turns.{Begins as ManagerBegins, Reads as ManagerReads, Writes as ManagerWrites, Ends, Undoes as ManagerUndoes, Hinders, CanChange, FitsSchema, key_of_change, image_of}
 use Rattle.sx_txn.specs.Answers.{AnswersRead, AnswersWrite, AnswersAt, Refuses, Makes, Aborts as ManagerAborts}
 use Rattle.sx_sync.specs.declared.Phase.TheVariants.{Idle}
@@ -41,9 +38,8 @@ use Rattle.sx_model.proofs.EntryLaws.{living_by}
 use Rattle.sx_core.specs.Machines.{Machine}
 use Rattle.sx_core.specs.Kept.{Fields, ManagerMeets, IsIdle, TransformMeets, IsKept, shapes_of}
 use Rattle.sx_core.specs.Asked.{Comes, HasPlace, IsInside, asked_for}
-use Rattle.sx_core.specs.Refusals.{change_fault, row_told, read_told, read_told_of, write_told}
+use Rattle.sx_core.specs.Refusals.{change_fault, read_told, write_told}
 use Rattle.sx_core.proofs.LivingLemmas.{one_fewer}
-use Rattle.sx_core.proofs.TableLemmas.{meets_named, found_meets}
 use Rattle.sx_core.proofs.HolderLemmas.{holder-named, holder-none}
 use Rattle.sx_core.proofs.ManagerLemmas.{meets-quiet, meets-begun, meets-read, meets-written, meets-ended, meets-undone, commit_ends, abort_ends}
 use Rattle.sx_core.proofs.ReplyLemmas.{begin-answered, undone-answered, aborted-answered, commit-answered, read-answered, change-answered, IsGood, change_told, told-done, told-exists, told-missing, change-key, read-key, change-record, effect-row, effect-absent, effect-begun, effect-done, effect-committed, effect-undone, effect-aborted, quiet-held, quiet-exists, quiet-missing, committed-true}
@@ -301,12 +297,6 @@ read_took catalog loads past journal f g m actor txn table key (read.Row row) as
 read_took catalog loads past journal f g m actor txn table key read.Absent asks answers clients beside is = shown_took catalog loads past journal f g m actor txn table key None asks answers clients beside is
 read_took catalog loads past journal f g m actor txn table key (read.Held by) asks answers clients beside is = read_held catalog loads past journal f g m actor txn table key by asks answers clients beside is
 
--- the row that was there before it is the one that it shows
-pub read_same : (old new : Managed) (txn : ℕ) (table : List ℕ) (key : List Value) (answer : TxnRead) (there : Option (List Value)) → AnswersRead old new txn table key answer → there ≡ row_left old.log table key → read_told_of answer there ≡ read_told answer
-read_same old new txn table key (read.Row row) there answers is = ap row_told (is ∙ answers.there)
-read_same old new txn table key read.Absent there answers is = ap row_told (is ∙ answers.there)
-read_same old new txn table key (read.Held by) there answers is = refl
-
 -- ** a change **
 
 -- a client of a live transaction asks for a change that its table admits
@@ -432,27 +422,3 @@ can_change catalog loads past f m table change holds good = record { layout = go
 
 pub table_is_there : (catalog : List Declared) (loads : ℕ) (past : List Entry) (f : Fields) (m : Machine) (table : List ℕ) (key : List Value) → Holds catalog loads past f m → IsGood (schema_of catalog table) (λ schema. key_fault schema key) → IsSome (schema_in f.managed.shapes table)
 table_is_there catalog loads past f m table key holds good = subst IsSome (sym (schema_there catalog loads past f m table holds ∙ good.declared)) refl
-
--- the table of a declared name is among those that the manager lends
-named_there : (catalog : List Declared) (log : List Rec) (tables : List NamedTable) (table : List ℕ) (d : Declared) → AreTables log (shapes_of catalog) tables → declared_as catalog table ≡ Some d → IsSome (table_named tables table)
-named_there catalog log tables table d meet declared = subst IsSome (sym (meets_named catalog log tables table d meet declared).found) refl
-
-lent_meet : (catalog : List Declared) (loads : ℕ) (past : List Entry) (f : Fields) (m : Machine) (lent : List NamedTable) → Holds catalog loads past f m → AreTables f.managed.log f.managed.shapes lent → AreTables f.managed.log (shapes_of catalog) lent
-lent_meet catalog loads past f m lent holds meet = subst (λ shapes. AreTables f.managed.log shapes lent) holds.kept.manager_meets.shapes meet
-
-pub table_is_named : (catalog : List Declared) (loads : ℕ) (past : List Entry) (f : Fields) (m : Machine) (lent : List NamedTable) (table : List ℕ) (key : List Value) → Holds catalog loads past f m → AreTables f.managed.log f.managed.shapes lent
-    → IsGood (schema_of catalog table) (λ schema. key_fault schema key) → IsSome (table_named lent table)
-table_is_named catalog loads past f m lent table key holds meet good = by (declared_as catalog table) refl good.declared
-  where
-    by : (answer : Option Declared) → declared_as catalog table ≡ answer → option_map (λ (d : Declared). d.schema) answer ≡ Some good.schema → IsSome (table_named lent table)
-    by None none declared = absurd (cc)
-    by (Some d) is declared = named_there catalog f.managed.log lent table d (lent_meet catalog loads past f m lent holds meet) is
-
--- the row that the lent table has is the one that the log leaves
-pub row_shown : (catalog : List Declared) (loads : ℕ) (past : List Entry) (f : Fields) (m : Machine) (lent : List NamedTable) (table : List ℕ) (key : List Value) (row : Option (List Value)) → Holds catalog loads past f m → AreTables f.managed.log f.managed.shapes lent
-    → IsSomeAnd (table_named lent table) (λ found. row ≡ option_map (λ (s : List Value × ℕ). s.0) (row_at found.rows key)) → row ≡ row_left f.managed.log table key
-row_shown catalog loads past f m lent table key row holds meet shown = by (table_named lent table) refl shown
-  where
-    by : (found : Option Relation) → table_named lent table ≡ found → IsSomeAnd found (λ found. row ≡ option_map (λ (s : List Value × ℕ). s.0) (row_at found.rows key)) → row ≡ row_left f.managed.log table key
-    by None none shown = absurd shown
-    by (Some source) is shown = shown ∙ ap (option_map (λ (s : List Value × ℕ). s.0)) (found_meets catalog f.managed.log lent table source (lent_meet catalog loads past f m lent holds meet) is key)

@@ -2,9 +2,7 @@
 use Rattle.std.proofs.Common.{◌≡◌, ◌∷◌, ◌++◌, ◌||◌, ◌⊎◌, [], ℕ, List, Bool, true, false, cond, map, filter, not, Option, Some, None, Result, Ok, Err, IfOk, option_map, inl, inr, length, reverse, nat_eq, arith, refl, sym, ◌∙◌, ap, subst}
 use Rattle.std.specs.List.{AllByRecursion, IsDistinct}
 use Rattle.std.specs.List.Sorted.{IsStrictlySortedBy}
-use Rattle.std.specs.Ordering.{is_eq, ordering_reverse}
-use Rattle.std.specs.declared.cmp.Ordering.{Ordering}
-use Rattle.std.specs.declared.cmp.Ordering.TheVariants.{Less, Equal, Greater}
+use Rattle.std.specs.declared.cmp.Ordering.TheVariants.{Less}
 use Rattle.std.proofs.lemmas.Bool.Decides.{nat_tests}
 use Rattle.std.proofs.lemmas.List.{append_assoc, append-nil, map-append, reverse-append}
 use Rattle.std.proofs.lemmas.List.Elements.{All-from_recursion, recursion_from_All}
@@ -13,15 +11,14 @@ use Rattle.sx_lists.specs.Answers.{or_later}
 use Rattle.sx_values.specs.declared.value.Value.{Value}
 use Rattle.sx_values.specs.declared.catalog.Declared.{Declared}
 use Rattle.sx_values.specs.Values.{values_cmp}
-use Rattle.sx_values.specs.Layouts.{Layout, Admits, key_of, row_fault}
+use Rattle.sx_values.specs.Layouts.{Layout, Admits, key_of}
 use Rattle.sx_values.specs.Names.{same_name}
 use Rattle.sx_values.specs.Catalogs.{schema_of, declared_as}
 use Rattle.sx_heap.specs.declared.seen.Seen.{Seen}
 use Rattle.sx_heap.specs.declared.tables.NamedTable.{NamedTable}
-use Rattle.sx_heap.specs.Relations.{Relation, IsRelation, IsRowOf, SetsRow, row_at, row_keys, same_key}
-use Rattle.sx_heap.specs.NamedTables.{LacksKeyOf, table_named, names_of_tables}
-use Rattle.sx_heap.proofs.RowLemmas.{found, rows_unique, same_key_tells}
-use Rattle.sx_heap.proofs.WalkLemmas.{values_total}
+use Rattle.sx_heap.specs.Relations.{Relation, IsRelation, IsRowOf}
+use Rattle.sx_heap.specs.NamedTables.{table_named, names_of_tables}
+use Rattle.sx_heap.proofs.RowLemmas.{found}
 use Rattle.sx_log.specs.declared.record.Rec.{Rec}
 use Rattle.sx_ops.specs.declared.spec.Spec.{Spec}
 use Rattle.sx_ops.specs.declared.spec.Spec.TheVariants.{Join, Split, Part, Union}
@@ -43,108 +40,9 @@ use Rattle.sx_core.proofs.TableLemmas.{admitted_rows, keys_of_rows, found_meets,
 abbrev pub all_unstamped : Layout → List (List Value) → List Seen
 all_unstamped schema rows = map (unstamped schema) rows
 
--- it doesn't matter which of two keys is asked for
-same_key-sym : (key other : List Value) → same_key key other ≡ same_key other key
-same_key-sym key other = ap is_eq (values_total.antisymm key other) ∙ by (values_cmp other key)
-  where
-    by : (r : Ordering) → is_eq (ordering_reverse r) ≡ is_eq r
-    by Less = refl
-    by Equal = refl
-    by Greater = refl
-
--- a key that isn't among rows isn't the first of them
-absent_head : (b : Bool) (s : Seen) (rest : Option (List Value × ℕ)) → cond b (Some (found s)) rest ≡ None → (b ≡ false) × (rest ≡ None)
-absent_head true s rest absent = absurd (cc)
-absent_head false s rest absent = (refl, absent)
-
--- what a key has behind one more row, whose key wasn't there
-row_at-push : (rows : List Seen) (s : Seen) (key : List Value) → row_at rows s.key ≡ None → row_at (rows ++ s ∷ []) key ≡ cond (same_key s.key key) (Some (found s)) (row_at rows key)
-row_at-push [] s key absent = ap (λ b. cond b (Some (found s)) None) (same_key-sym key s.key)
-row_at-push (x ∷ rows) s key absent =
-    let apart = absent_head (same_key s.key x.key) x (row_at rows s.key) absent in
-    by (same_key key x.key) refl apart.0 (row_at-push rows s key apart.1)
-  where
-    by : (b : Bool) → same_key key x.key ≡ b → same_key s.key x.key ≡ false → row_at (rows ++ s ∷ []) key ≡ cond (same_key s.key key) (Some (found s)) (row_at rows key)
-        → cond b (Some (found x)) (row_at (rows ++ s ∷ []) key) ≡ cond (same_key s.key key) (Some (found s)) (cond b (Some (found x)) (row_at rows key))
-    by true here other again =
-        let is : same_key s.key key ≡ false = ap (same_key s.key) (same_key_tells key x.key here) ∙ other in
-        rw is refl
-    by false there other again = again
-
--- a key that is below a row's isn't that row's
-below_apart : (key other : List Value) → values_cmp key other ≡ Less → same_key other key ≡ false
-below_apart key other less = ap is_eq (values_total.antisymm other key ∙ ap ordering_reverse less)
-
-below_middle : (schema : Layout) (key : List Value) (done : List (List Value)) (row : List Value) (more : List (List Value))
-    → AllByRecursion (λ other. values_cmp key other ≡ Less) (map (key_of schema) (done ++ row ∷ more)) → values_cmp key (key_of schema row) ≡ Less
-below_middle schema key [] row more all = all.0
-below_middle schema key (first ∷ done) row more all = below_middle schema key done row more all.1
-
--- in key order the key of a row isn't among those of the earlier rows
-absent_before : (schema : Layout) (done : List (List Value)) (row : List Value) (more : List (List Value))
-    → IsStrictlySortedBy values_cmp (map (key_of schema) (done ++ row ∷ more)) → row_at (all_unstamped schema done) (key_of schema row) ≡ None
-unfolding IsStrictlySortedBy
-absent_before schema [] row more sorted = refl
-absent_before schema (first ∷ done) row more sorted =
-    let apart = below_apart (key_of schema first) (key_of schema row) (below_middle schema (key_of schema first) done row more sorted.0) in
-    rw apart (absent_before schema done row more sorted.1)
-
-admitted_middle : (schema : Layout) (done : List (List Value)) (row : List Value) (more : List (List Value))
-    → AllByRecursion (Admits schema) (done ++ row ∷ more) → Admits schema row
-admitted_middle schema [] row more all = all.0
-admitted_middle schema (first ∷ done) row more all = admitted_middle schema done row more all.1
-
--- a table that is being filled: it has the first of these rows, and the others are left
-pub record IsFilling (schema : Layout) (rows done left : List (List Value)) (table : Relation) : Type 0 where
-  pub schema_is : table.schema ≡ schema
-  pub rows_are : (key : List Value) → row_at table.rows key ≡ row_at (all_unstamped schema done) key
-  pub whole : rows ≡ done ++ left
-
--- the next row may be put in
-pub filling_lacks : (schema : Layout) (rows done left : List (List Value)) (table : Relation) (row : List Value) (more : List (List Value))
-    → AreInOrder schema rows → IsFilling schema rows done left table → left ≡ row ∷ more → LacksKeyOf row table
-filling_lacks schema rows done left table row more order filling next =
-    let split = filling.whole ∙ ap (λ l. done ++ l) next in
-    record {
-      admitted = ap (λ s. row_fault s row) filling.schema_is ∙ admitted_middle schema done row more (subst (AllByRecursion (Admits schema)) split order.admitted);
-      absent =
-          ap (λ s. row_at table.rows (key_of s row)) filling.schema_is ∙ filling.rows_are (key_of schema row)
-          ∙ absent_before schema done row more (subst (λ l. IsStrictlySortedBy values_cmp (map (key_of schema) l)) split order.in_order);
-    }
-
--- and is then among those that it has
-pub filling_more : (schema : Layout) (rows done left : List (List Value)) (table next : Relation) (row : List Value) (more : List (List Value))
-    → AreInOrder schema rows → IsFilling schema rows done left table → left ≡ row ∷ more → SetsRow table next (key_of table.schema row) (Some (row, 0))
-    → IsFilling schema rows (done ++ row ∷ []) more next
-filling_more schema rows done left table next row more order filling is sets =
-    let split = filling.whole ∙ ap (λ l. done ++ l) is in
-    let absent = absent_before schema done row more (subst (λ l. IsStrictlySortedBy values_cmp (map (key_of schema) l)) split order.in_order) in
-    record {
-      schema_is = sets.same_schema ∙ filling.schema_is;
-      rows_are = λ key.
-          sets.at_keys key ∙ ap (λ s. cond (same_key (key_of s row) key) (Some (row, 0)) (row_at table.rows key)) filling.schema_is
-          ∙ ap (cond (same_key (key_of schema row) key) (Some (row, 0))) (filling.rows_are key)
-          ∙ sym (row_at-push (all_unstamped schema done) (unstamped schema row) key absent)
-          ∙ ap (λ l. row_at l key) (sym (map-append (unstamped schema) done (row ∷ [])));
-      whole = split ∙ sym (append_assoc done (row ∷ []) more);
-    }
-
-keys_unstamped : (schema : Layout) (rows : List (List Value)) → row_keys (all_unstamped schema rows) ≡ map (key_of schema) rows
-keys_unstamped schema [] = refl
-keys_unstamped schema (row ∷ rows) = ap (λ l. key_of schema row ∷ l) (keys_unstamped schema rows)
-
 bare_unstamped : (schema : Layout) (rows : List (List Value)) → bare_rows (all_unstamped schema rows) ≡ rows
 bare_unstamped schema [] = refl
 bare_unstamped schema (row ∷ rows) = ap (λ l. row ∷ l) (bare_unstamped schema rows)
-
--- at the end it has these rows in their order
-pub filling_done : (schema : Layout) (rows done left : List (List Value)) (table : Relation)
-    → AreInOrder schema rows → IsFilling schema rows done left table → left ≡ [] → IsRelation table → table ≡ fresh_table schema rows
-filling_done schema rows done left table order filling over is =
-    let all : rows ≡ done = filling.whole ∙ ap (λ l. done ++ l) over ∙ append-nil done in
-    let sorted = subst (IsStrictlySortedBy values_cmp) (sym (keys_unstamped schema rows)) order.in_order in
-    let rows_are = rows_unique table.rows (all_unstamped schema rows) is.sorted sorted (λ key. filling.rows_are key ∙ ap (λ l. row_at (all_unstamped schema l) key) (sym all)) in
-    λ i. record { schema = filling.schema_is i; rows = rows_are i }
 
 -- fresh tables have the names of their targets
 names_of_fresh : (targets : List Target) (lists : List (List (List Value))) → FillTargets targets lists → names_of_tables (fresh_tables targets lists) ≡ target_names targets

@@ -1,15 +1,15 @@
 -- Tables whose rows no record put there.
 use Rattle.std.specs.Prelude.{◌∷◌, List, [], map}
 use Rattle.sx_values.specs.declared.value.Value.{Value}
-use Rattle.sx_values.specs.Layouts.{Layout, key_of}
+use Rattle.sx_values.specs.Layouts.{Layout}
 use Rattle.sx_heap.specs.declared.seen.Seen.{Seen}
 use Rattle.sx_heap.specs.declared.tables.NamedTable.{NamedTable}
-use Rattle.sx_heap.specs.Relations.{Relation}
+use Rattle.sx_heap.specs.Relations.{Relation, seen_under}
 use Rattle.sx_ops.specs.declared.spec.Target.{Target}
 
 -- a row with its key, and with LSN 0
 abbrev pub unstamped : Layout → List Value → Seen
-unstamped schema row = record { key = key_of schema row; row = row; lsn = 0 }
+unstamped schema = seen_under schema 0
 
 -- a table of these rows
 abbrev pub fresh_table : Layout → List (List Value) → Relation

@@ -2,7 +2,6 @@
 use Rattle.std.specs.Prelude.{◌≡◌, ◌+◌, ◌++◌, ◌∷◌, ◌⊎◌, Bool, ℕ, List, [], length, map, reverse, is_some, nat_lt, Option, Some, None, option_map, Result, Ok, Err, if◌then◌else◌}
 use Rattle.std.specs.List.{list_any, AllByRecursion}
 use Rattle.sx_lists.specs.Answers.{or_later}
-use Rattle.sx_values.specs.declared.value.Value.{Value}
 use Rattle.sx_values.specs.declared.catalog.Declared.{Declared}
 use Rattle.sx_values.specs.Layouts.{Layout, key_of, row_fault}
 use Rattle.sx_values.specs.Catalogs.{schema_of}
@@ -24,12 +23,6 @@ use Rattle.sx_core.specs.declared.make.MakeFault.TheVariants.{Memory, TooManyRow
 -- a declared table without rows
 abbrev pub empty_table : Declared → NamedTable
 empty_table declared = record { name = declared.name; table = record { schema = declared.schema; rows = [] } }
-
--- a load whose row this table admits, and whose key it lacks
-pub record CanPut (load : Load) (key : List Value) (table : Relation) : Type 0 where
-  pub admitted : row_fault table.schema load.row ≡ None
-  pub keyed : key ≡ key_of table.schema load.row
-  pub absent : row_at table.rows key ≡ None
 
 -- a loaded row is in its table, which was this one, under the LSN of its record, the next of the log
 pub record PutsLoad (log longer : List Rec) (tables changed : List NamedTable) (load : Load) (table : Relation) : Type 0 where

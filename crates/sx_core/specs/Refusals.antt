@@ -28,22 +28,11 @@ abbrev pub change_refused : Option Layout → Change → Option Reply
 change_refused None change = Some reply.NoTable
 change_refused (Some layout) change = option_map reply.BadRow (change_fault layout change)
 
--- a row, or that there is none
-abbrev pub row_told : Option (List Value) → Reply
-row_told (Some row) = reply.Row row
-row_told None = reply.Absent
-
 -- what the manager's answer to a read tells
 abbrev pub read_told : TxnRead → Reply
 read_told (read.Row row) = reply.Row row
 read_told read.Absent = reply.Absent
 read_told (read.Held by) = reply.Held by
-
--- the same, with the row that was there before it
-abbrev pub read_told_of : TxnRead → Option (List Value) → Reply
-read_told_of (read.Row row) there = row_told there
-read_told_of read.Absent there = row_told there
-read_told_of (read.Held by) there = reply.Held by
 
 -- what the manager's answer to a change tells
 abbrev pub write_told : TxnWrite → Reply

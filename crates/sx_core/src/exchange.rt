@@ -94,19 +94,7 @@ fn filled(alloc: Global, schema: Schema, rows: Rows) -> Result<Table, AllocError
     requires { AreInOrder schema rows }
     ensures { IfOk result (λ table. table ≡ fresh_table schema rows) }
 {
-    let mut table = Table::new(alloc, schema);
-    for row in rows.into_vec() {
-        table.insert(row, 0)?;
-    }
-    show_order(&table);
-    Ok(table)
-}
-
-// Does nothing: it tells a proof that a table's rows are in key order, each with its own key.
-fn show_order(table: &Table)
-    ensures { IsRelation table.now }
-{
-    let _ = table.schema();
+    Table::of_rows(alloc, schema, rows, 0)
 }
 
 // The least of these transactions that has a lock on the table. The oldest entry stands first.

@@ -4,13 +4,13 @@ ghost use Rattle.std.specs.Option.{option_copied};
 ghost use Rattle.std.specs.List.{IsDistinct};
 ghost use Rattle.sx_values.specs.Names.{same_name};
 ghost use Rattle.sx_values.specs.Catalogs.{table_names};
-ghost use Rattle.sx_heap.specs.NamedTables.{AreNamedApart, table_named};
+ghost use Rattle.sx_heap.specs.NamedTables.{AreNamedApart, CanHold, table_named};
 ghost use Rattle.sx_model.specs.Loads.{loaded_into};
 ghost use Rattle.sx_core.specs.declared.make.MakeFault.TheVariants.{Memory};
-ghost use Rattle.sx_core.specs.Loading.{empty_table, crowded, put_fault, Made, Loads, CanPut, PutsLoad};
+ghost use Rattle.sx_core.specs.Loading.{empty_table, crowded, put_fault, Made, Loads, PutsLoad};
 
 use crate::clients::Clients;
-use crate::{Core, Load, Loads, uncounted};
+use crate::{Core, Load, Loads};
 use std::alloc::{AllocError, Global};
 use sx_heap::{Cursor, Table, Tables};
 use sx_journal::Journal;
@@ -156,10 +156,15 @@ fn put_load(alloc: Global, base: &mut Base, load: Load) -> Result<(), MakeFault>
     ensures err { IfErr result (λ fault. (fault ≡ Memory) ⊎ (put_fault (table_named base.old.tables load.table) (length base.old.log.newest + 1) load ≡ Some fault)) }
 {
     let lsn = next_lsn(&base.log);
-    let key = key_to_put(alloc, &base.tables, &load, lsn)?;
+    let key = admitted_key(alloc, &base.tables, &load, lsn)?;
     let Load { table, row } = load;
     base.log.reserve(1)?;
-    base.tables.insert(&table, row.copy(alloc)?, lsn)?;
+    if !base
+        .tables
+        .put(&table, key.copy(alloc)?, row.copy(alloc)?, lsn)?
+    {
+        return Err(MakeFault::RepeatedKey { place: lsn });
+    }
     let body = Body::Write {
         table,
         key,
@@ -170,9 +175,9 @@ fn put_load(alloc: Global, base: &mut Base, load: Load) -> Result<(), MakeFault>
     Ok(())
 }
 
-// The key of the load at a place, whose row its table admits and lacks.
-fn key_to_put(alloc: Global, tables: &Tables, load: &Load, place: u64) -> Result<Key, MakeFault>
-    ensures ok { IfOk result (λ key. IsSomeAnd (table_named tables.now load.now.table) (CanPut load.now key)) }
+// The key of the load at a place, whose row its table admits.
+fn admitted_key(alloc: Global, tables: &Tables, load: &Load, place: u64) -> Result<Key, MakeFault>
+    ensures ok { IfOk result (λ key. IsSomeAnd (table_named tables.now load.now.table) (CanHold key load.now.row)) }
     ensures apart { AreNamedApart tables.now }
     ensures err { IfErr result (λ fault. (fault ≡ Memory) ⊎ (put_fault (table_named tables.now load.now.table) place load.now ≡ Some fault)) }
 {
@@ -181,13 +186,7 @@ fn key_to_put(alloc: Global, tables: &Tables, load: &Load, place: u64) -> Result
     };
     match table.schema().admits(&load.row) {
         Err(bad) => Err(MakeFault::BadRow { place, bad }),
-        Ok(()) => {
-            let key = table.schema().key_of(alloc, &load.row)?;
-            match uncounted::get(table, &key) {
-                Some(_) => Err(MakeFault::RepeatedKey { place }),
-                None => Ok(key),
-            }
-        }
+        Ok(()) => Ok(table.schema().key_of(alloc, &load.row)?),
     }
 }
 

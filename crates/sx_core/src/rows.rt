@@ -1,16 +1,13 @@
 // Requests that read or write the row of a key.
-ghost use Rattle.std.specs.Prelude.{◌≡◌, Option, Some, None, IfOk, IsSome, IsSomeAnd, option_map};
+ghost use Rattle.std.specs.Prelude.{◌≡◌, Some, None, IfOk};
 ghost use Rattle.sx_values.specs.Catalogs.{schema_of};
-ghost use Rattle.sx_heap.specs.Relations.{row_at};
-ghost use Rattle.sx_heap.specs.NamedTables.{table_named};
 ghost use Rattle.sx_core.specs.Answers.{AnswersClient};
 ghost use Rattle.sx_core.specs.Asked.{Comes, HasPlace, IsInside, asked_for};
-ghost use Rattle.sx_core.specs.Refusals.{key_refused, change_refused, change_fault, row_told, read_told, read_told_of, write_told};
+ghost use Rattle.sx_core.specs.Refusals.{key_refused, change_refused, change_fault, read_told, write_told};
 
 use crate::{Core, CoreFault};
 use std::alloc::{AllocError, Global};
 use std::sync::ledger::Ledger;
-use sx_heap::Tables;
 use sx_journal::{Entry, Event, Reply, Request};
 use sx_lists::Copied;
 use sx_steps::Steps;
@@ -53,16 +50,14 @@ impl Core {
         requires admitted { key_refused (schema_of self.old.opening.catalog table) key ≡ None }
         ensures { AnswersClient self.old self.new actor (Request.Read table key) result }
     {
-        let row = row_there(self.alloc, self.manager.tables(), &table, &key, steps)?;
         self.journal.reserve(self.clients.room_and(1))?;
-        let read = self.manager.read(txn, &table, &key, steps)?;
-        let answer = read_told_of(&read, row);
+        let (read, told) = self.manager.read_twice(txn, &table, &key, steps)?;
         self.journal.append(Entry {
             actor,
             event: Event::Client(Request::Read { table, key }),
             reply: read_told(read),
         });
-        Ok(answer)
+        Ok(read_told(told))
     }
 
     // Changes the row of a key.
@@ -109,26 +104,6 @@ impl Core {
             reply: write_told(answer),
         });
         Ok(write_told(answer))
-    }
-}
-
-// A copy of the row that a key has in the table of a name, or None.
-fn row_there<L: Ledger>(
-    alloc: Global,
-    tables: &Tables,
-    name: &Name,
-    key: &Key,
-    steps: &mut Steps<L>,
-) -> Result<Option<Row>, AllocError>
-    requires { IsSome (table_named tables.now name.now) }
-    ensures { IfOk result (λ row. IsSomeAnd (table_named tables.now name.now) (λ table. row ≡ option_map (λ s. s.0) (row_at table.rows key.now))) }
-{
-    let Some(table) = tables.find(name) else {
-        unreachable!()
-    };
-    match table.get(key, steps) {
-        None => Ok(None),
-        Some((row, _)) => Ok(Some(row.copy(alloc)?)),
     }
 }
 
@@ -187,26 +162,6 @@ fn read_told(read: TxnRead) -> Reply
         TxnRead::Row { row } => Reply::Row { row },
         TxnRead::Absent => Reply::Absent,
         TxnRead::Held { by } => Reply::Held { by },
-    }
-}
-
-// The same, with the row that was there before it.
-fn read_told_of(read: &TxnRead, there: Option<Row>) -> Reply
-    ensures { result ≡ read_told_of read.now there }
-{
-    match read {
-        TxnRead::Row { .. } | TxnRead::Absent => row_told(there),
-        TxnRead::Held { by } => Reply::Held { by: *by },
-    }
-}
-
-// A row, or that there is none.
-fn row_told(row: Option<Row>) -> Reply
-    ensures { result ≡ row_told row }
-{
-    match row {
-        Some(row) => Reply::Row { row },
-        None => Reply::Absent,
     }
 }
 

@@ -1,5 +1,5 @@
 -- The rows of a map's entries: at a key, in order, and between bounds.
-use Rattle.std.proofs.Common.{◌≡◌, ◌↔◌, IsTrue, ◌∷◌, ◌++◌, [], ◌+◌, ◌&&◌, IsSome, ℕ, zero, suc, List, Bool, true, false, Option, Some, None, option_map, refl, sym, ap, ◌∙◌, subst, cond, map, take, drop, All}
+use Rattle.std.proofs.Common.{◌≡◌, ◌↔◌, IsTrue, ◌∷◌, ◌++◌, [], ◌+◌, ◌&&◌, IsSome, ℕ, zero, suc, List, Bool, true, false, Option, Some, None, option_map, is_some, refl, sym, ap, ◌∙◌, subst, cond, map, take, drop, All}
 use Rattle.std.specs.Map.{lookup, keys_of, values_of, set_value}
 use Rattle.std.specs.BTreeMap.{is_at, insert_entry}
 use Rattle.std.specs.BTreeMap.Range.{entries_between}
@@ -70,6 +70,14 @@ All-rows_of-set_value P key v (e ∷ es) h a = by (values_cmp key e.0) refl (set
     by Less k put b = All-cons P (seen_of e) (rows_of put) (All-head P (seen_of e) (rows_of es) a) b
     by Equal k put b = All-cons P (seen_of (e.0, v)) (rows_of es) (subst (λ q. P (seen_of (q, v))) (values_tie key e.0 k) h) (All-tail P (seen_of e) (rows_of es) a)
     by Greater k put b = All-cons P (seen_of e) (rows_of put) (All-head P (seen_of e) (rows_of es) a) b
+
+some_mapped : (found : Option Stamped) → is_some found ≡ is_some (option_map image_of found)
+some_mapped None = refl
+some_mapped (Some v) = refl
+
+-- a key has an entry exactly where it has a row
+pub there_alike : (es : List (List Value × Stamped)) (key : List Value) (was : Option Stamped) → was ≡ lookup (is_at (values_cmp key)) es → is_some was ≡ is_some (row_at (rows_of es) key)
+there_alike es key was e = ap is_some e ∙ some_mapped (lookup (is_at (values_cmp key)) es) ∙ ap is_some (sym (row_at-rows_of es key))
 
 -- a key that has a row has an entry
 pub has_entry : (es : List (List Value × Stamped)) (key : List Value) → IsSome (row_at (rows_of es) key) → IsSome (lookup (is_at (values_cmp key)) es)

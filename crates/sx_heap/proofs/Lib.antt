@@ -1,4 +1,5 @@
 pub mod EntryLemmas
+pub mod MadeLemmas
 pub mod NameLemmas
 pub mod RowLemmas
 pub mod SeenLemmas

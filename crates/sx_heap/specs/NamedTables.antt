@@ -34,6 +34,11 @@ with_table (t ∷ tables) name table = if same_name t.name name then record { na
 abbrev pub named_pair : Bor (List ℕ) × Bor Relation → NamedTable
 named_pair pair = record { name = pair.0.now; table = pair.1.now }
 
+-- the table admits the row, whose key this is
+pub record CanHold (key row : List Value) (table : Relation) : Type 0 where
+  pub admitted : Admits table.schema row
+  pub keyed : key ≡ key_of table.schema row
+
 -- the table admits the row and lacks its key
 pub record LacksKeyOf (row : List Value) (table : Relation) : Type 0 where
   pub admitted : Admits table.schema row

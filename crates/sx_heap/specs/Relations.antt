@@ -25,6 +25,10 @@ row_at (seen ∷ rows) key = if same_key key seen.key then Some (seen.row, seen.
 abbrev pub row_keys : List Seen → List (List Value)
 row_keys rows = map (λ (s : Seen). s.key) rows
 
+-- a row with its key, under this LSN
+abbrev pub seen_under : Layout → ℕ → List Value → Seen
+seen_under layout lsn row = record { key = key_of layout row; row = row; lsn = lsn }
+
 -- the schema admits the row, which has this key
 pub record IsRowOf (layout : Layout) (seen : Seen) : Type 0 where
   pub admitted : Admits layout seen.row

@@ -1,9 +1,12 @@
 // A table: its rows by key.
-ghost use Rattle.std.specs.Prelude.{◌≡◌, ◌==◌, ◌+◌, ◌≤◌, [], None, length, map, option_map, take, drop, IfOk, OnOk, OnErr, IsOk, IsSome, is_some, if◌then◌else◌};
+ghost use Rattle.std.specs.Prelude.{◌≡◌, ◌==◌, ◌+◌, ◌≤◌, [], Some, None, not, length, map, option_map, take, drop, IfOk, OnOk, OnErr, IsOk, IsSome, is_some, if◌then◌else◌};
+ghost use Rattle.std.specs.List.{AllByRecursion};
+ghost use Rattle.std.specs.List.Sorted.{IsStrictlySortedBy};
+ghost use Rattle.sx_values.specs.Values.{values_cmp};
 ghost use Rattle.sx_values.specs.Layouts.{Admits, key_of};
-ghost use Rattle.sx_heap.specs.Relations.{IsRelation, IsRowOf, SetsRow, row_at};
+ghost use Rattle.sx_heap.specs.Relations.{IsRelation, SetsRow, row_at, seen_under};
 ghost use Rattle.sx_heap.specs.Walks.{WalksOn};
-ghost use Rattle.sx_heap.specs.Entries.{seen_of, rows_of};
+ghost use Rattle.sx_heap.specs.Entries.{seen_of, rows_of, entry_under};
 
 use crate::{Cursor, Seen, Seens, Walked};
 use std::alloc::{AllocError, Global};
@@ -56,6 +59,26 @@ impl Table {
         }
     }
 
+    /// A table with these rows, which the schema admits and whose keys come in strict order, all under one LSN.
+    pub fn of_rows(
+        alloc: Global,
+        schema: Schema,
+        rows: List<Row>,
+        lsn: u64,
+    ) -> Result<Table, AllocError>
+        requires admitted { AllByRecursion (Admits schema) rows }
+        requires in_order { IsStrictlySortedBy values_cmp (map (key_of schema) rows) }
+        ensures { IfOk result (λ table. table ≡ record { schema = schema; rows = map (seen_under schema lsn) rows }) }
+    {
+        let entries = entries_of(alloc, &schema, rows, lsn)?;
+        let rows = BTreeMap::from_iter(alloc, entries)?;
+        Ok(Table {
+            schema,
+            rows,
+            alloc,
+        })
+    }
+
     /// The schema that admits the rows.
     pub fn schema(&self) -> &Schema
         ensures schema { result.now ≡ self.now.schema }
@@ -99,7 +122,21 @@ impl Table {
         ensures err { OnErr result (self.new ≡ self.old) }
     {
         let key = self.schema.key_of(self.alloc, &row)?;
-        self.put(key, Stamped { row, lsn })
+        self.put(key, row, lsn)?;
+        Ok(())
+    }
+
+    /// Puts a row at its key, where another row goes if one is there, and answers whether the key was absent. Want of memory
+    /// changes nothing.
+    pub fn put(&mut self, key: Key, row: Row, lsn: u64) -> Result<bool, AllocError>
+        requires admitted { Admits self.old.schema row }
+        requires keyed { key ≡ key_of self.old.schema row }
+        ensures absent { IfOk result (λ absent. absent ≡ not (is_some (row_at self.old.rows key))) }
+        ensures ok { OnOk result (SetsRow self.old self.new key (Some (row, lsn))) }
+        ensures err { OnErr result (self.new ≡ self.old) }
+    {
+        let was = self.rows.insert(key, Stamped { row, lsn })?;
+        Ok(was.is_none())
     }
 
     /// Puts a row in the place of that of its key. Want of memory changes nothing.
@@ -178,16 +215,6 @@ impl Table {
         }
         Ok(rows)
     }
-
-    // Puts a row at its key.
-    fn put(&mut self, key: Key, stamped: Stamped) -> Result<(), AllocError>
-        requires { IsRowOf self.old.schema (seen_of (key, stamped)) }
-        ensures ok { OnOk result (SetsRow self.old self.new key (Some (stamped.row, stamped.lsn))) }
-        ensures err { OnErr result (self.new ≡ self.old) }
-    {
-        self.rows.insert(key, stamped)?;
-        Ok(())
-    }
 }
 
 impl Stamped {
@@ -216,6 +243,24 @@ impl Stamped {
         let row = row.copy(alloc)?;
         Ok(Seen { key, row, lsn })
     }
+}
+
+// Rows with their keys and an LSN, in their order.
+fn entries_of(
+    alloc: Global,
+    schema: &Schema,
+    rows: List<Row>,
+    lsn: u64,
+) -> Result<Vec<(Key, Stamped)>, AllocError>
+    requires { AllByRecursion (Admits schema.now) rows }
+    ensures { IfOk result (λ entries. entries.items ≡ map (entry_under schema.now lsn) rows) }
+{
+    let mut entries = Vec::new(alloc);
+    for row in rows.into_vec() {
+        let key = schema.key_of(alloc, &row)?;
+        entries.push((key, Stamped { row, lsn }))?;
+    }
+    Ok(entries)
 }
 
 // The next rows of those ahead, at most `n`.

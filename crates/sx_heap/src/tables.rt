@@ -1,9 +1,9 @@
 // Tables by name.
-ghost use Rattle.std.specs.Prelude.{◌≡◌, ◌==◌, [], ◌∷◌, ◌++◌, ◌<◌, None, length, OnOk, OnErr, IsOk, IfSome, IsSome, IsSomeAnd, option_map};
+ghost use Rattle.std.specs.Prelude.{◌≡◌, ◌==◌, [], ◌∷◌, ◌++◌, ◌<◌, None, length, not, is_some, IfOk, OnOk, OnErr, IsOk, IfSome, IsSome, IsSomeAnd, option_map};
 ghost use Rattle.sx_values.specs.Names.{same_name};
 ghost use Rattle.std.specs.Option.{option_copied, option_copied_mut};
 ghost use Rattle.sx_lists.specs.Places.{at_place};
-ghost use Rattle.sx_heap.specs.NamedTables.{AreNamedApart, PutsRowIn, RemovesRowIn, LacksKeyOf, HasKeyOf, HasThisKeyOf, table_named, index_named, named_pair};
+ghost use Rattle.sx_heap.specs.NamedTables.{AreNamedApart, PutsRowIn, RemovesRowIn, CanHold, LacksKeyOf, HasKeyOf, HasThisKeyOf, table_named, index_named, named_pair};
 ghost use Rattle.sx_heap.specs.Relations.{row_at};
 
 use crate::Table;
@@ -112,6 +112,21 @@ impl Tables {
     {
         match self.find_mut(name) {
             Some(table) => table.insert(row, lsn),
+            None => unreachable!(),
+        }
+    }
+
+    /// Puts a row at its key in the table of a name, where another row goes if one is there, and answers whether the key was
+    /// absent. Want of memory changes nothing.
+    #[tactic(auto, using(crate::proofs::NameLemmas::with_table_same))]
+    pub fn put(&mut self, name: &Name, key: Key, row: Row, lsn: u64) -> Result<bool, AllocError>
+        requires { IsSomeAnd (table_named self.old name.now) (CanHold key row) }
+        ensures absent { IfOk result (λ absent. IsSomeAnd (table_named self.old name.now) (λ before. absent ≡ not (is_some (row_at before.rows key)))) }
+        ensures ok { OnOk result (PutsRowIn self.old self.new name.now row lsn) }
+        ensures err { OnErr result (self.new ≡ self.old) }
+    {
+        match self.find_mut(name) {
+            Some(table) => table.put(key, row, lsn),
             None => unreachable!(),
         }
     }

@@ -1,5 +1,7 @@
 // Rows that are put in out of order, by key, in turns and by the name of their table.
 ghost use Rattle.std.specs.Prelude.{◌≡◌, ◌+◌, ◌<◌, IfOk, OnOk, IsTrue, IsSomeAnd, option_map};
+ghost use Rattle.std.specs.Ordering.{is_lt};
+ghost use Rattle.sx_values.specs.Values.{values_cmp};
 ghost use Rattle.sx_heap.specs.Relations.{row_at};
 ghost use Rattle.sx_heap.specs.NamedTables.{HasThisKeyOf, table_named};
 
@@ -368,5 +370,67 @@ fn a_row_is_rewritten(rt: HostRuntime) -> Result<(), Fail> {
         None => panic!(rt; "no table"),
     }
     assert_len(&rt, &tables, &a, 5);
+    Ok(())
+}
+
+#[test]
+fn a_row_is_put(rt: HostRuntime) -> Result<(), Fail> {
+    let alloc = rt.alloc();
+    let mut table = five_rows(&rt, alloc)?;
+    assert!(rt; !put(&rt, alloc, &mut table, row(alloc, 30, 8)?, 6)?);
+    assert!(rt; put(&rt, alloc, &mut table, row(alloc, 35, 9)?, 7)?);
+    assert_eq!(rt; table.len(), 6);
+    assert_has(&rt, &table, &key(alloc, 30)?, &row(alloc, 30, 8)?, 6);
+    assert_has(&rt, &table, &key(alloc, 35)?, &row(alloc, 35, 9)?, 7);
+    Ok(())
+}
+
+fn put(
+    rt: &impl Abort,
+    alloc: Global,
+    table: &mut Table,
+    row: Row,
+    lsn: u64,
+) -> Result<bool, Fail> {
+    assert!(rt; table.schema().admits(&row).is_ok());
+    let key = table.schema().key_of(alloc, &row)?;
+    Ok(table.put(key, row, lsn)?)
+}
+
+// Whether a key is below another.
+fn is_below(key: &Key, other: &Key) -> bool
+    ensures { result ≡ is_lt (values_cmp key.now other.now) }
+{
+    key.cmp(other).is_lt()
+}
+
+// A table of two rows with this LSN, the first of which has the lesser key.
+fn of_two(
+    rt: &impl Abort,
+    alloc: Global,
+    first: Row,
+    second: Row,
+    lsn: u64,
+) -> Result<Table, Fail> {
+    let schema = schema(alloc)?;
+    assert!(rt; schema.admits(&first).is_ok());
+    assert!(rt; schema.admits(&second).is_ok());
+    let one = schema.key_of(alloc, &first)?;
+    let two = schema.key_of(alloc, &second)?;
+    assert!(rt; is_below(&one, &two));
+    let mut rows = List::new(alloc);
+    rows.push(first)?;
+    rows.push(second)?;
+    Ok(Table::of_rows(alloc, schema, rows, lsn)?)
+}
+
+#[test]
+fn a_table_of_rows(rt: HostRuntime) -> Result<(), Fail> {
+    let alloc = rt.alloc();
+    let table = of_two(&rt, alloc, row(alloc, -10, 7)?, row(alloc, 20, 8)?, 3)?;
+    assert_eq!(rt; table.len(), 2);
+    assert_has(&rt, &table, &key(alloc, -10)?, &row(alloc, -10, 7)?, 3);
+    assert_has(&rt, &table, &key(alloc, 20)?, &row(alloc, 20, 8)?, 3);
+    assert!(rt; get(&table, &key(alloc, 30)?).is_none());
     Ok(())
 }

@@ -5,16 +5,16 @@ use Rattle.std.specs.Map.{lookup}
 use Rattle.std.specs.BTreeMap.{is_at}
 use Rattle.std.specs.Ordering.{nat_cmp}
 use Rattle.std.specs.Cmp.{Equal-is}
-use Rattle.std.specs.Cmp.Lexicographic.{slice_cmp}
+use Rattle.std.specs.Cmp.Lexicographic.{slice_cmp, pointwise, lists_ties}
 use Rattle.std.proofs.lemmas.Map.Text.{is_eq-slice_cmp}
 use Rattle.std.proofs.lemmas.Bool.{and_parts}
 use Rattle.sx_values.specs.declared.value.Value.{Value}
-use Rattle.sx_values.specs.Values.{values_eq, values_cmp}
+use Rattle.sx_values.specs.Values.{value_cmp, value_eq, values_eq, values_cmp}
 use Rattle.sx_values.specs.Names.{same_name}
 use Rattle.sx_values.proofs.KeyLaws.{values_tie, same_name_tells}
 use Rattle.sx_locks.specs.declared.mode.Mode.{Mode}
-use Rattle.sx_locks.specs.Modes.{mode_of}
-use Rattle.sx_locks.specs.Locks.{KeyHolders, Locks, holders_at, mode_at, keys_at, mode_held, SetsLockAt, SetsLock}
+use Rattle.sx_locks.specs.Modes.{mode_of, stronger}
+use Rattle.sx_locks.specs.Locks.{KeyHolders, Locks, holders_at, mode_at, keys_at, mode_held, SetsLockAt, SetsLock, LockedSo}
 
 -- the holders of one transaction set
 abbrev pub SetsMode : List (ℕ × Mode) → List (ℕ × Mode) → ℕ → Option Mode → Type 0
@@ -31,6 +31,24 @@ SetsKeys old new table keys = (name : List ℕ) → keys_at new name ≡ cond (s
 pub unwrap_or-cond : {X : Type 0} (b : Bool) (image other : Option X) (d : X) → unwrap_or (cond b image other) d ≡ cond b (unwrap_or image d) (unwrap_or other d)
 unwrap_or-cond true image other d = refl
 unwrap_or-cond false image other d = refl
+
+-- whether two keys are one, as their `==` tells
+abbrev pub key_is : List Value → List Value → Bool
+key_is key place = pointwise value_eq key place
+
+-- `==` of keys and their order agree
+key_is-at : (key place : List Value) → key_is key place ≡ is_at (values_cmp key) place
+key_is-at key place = lists_ties {E = value_eq} value_cmp (λ v w. refl) key place
+
+-- a look-up by `==` finds what one by the order finds
+pub found_by : {X : Type 0} (es : List (List Value × X)) (key : List Value) → lookup (key_is key) es ≡ lookup (is_at (values_cmp key)) es
+found_by [] key = refl
+found_by (e ∷ es) key = rw (key_is-at key e.0) (ap (cond (is_at (values_cmp key) e.0) (Some e.1)) (found_by es key))
+
+-- what a map has at each key by `==`, it has by the order
+pub has_by : {X : Type 0} (old new : List (List Value × X)) (key : List Value) (image : Option X) → ((q : List Value) → lookup (key_is q) new ≡ cond (key_is key q) image (lookup (key_is q) old)) → (q : List Value) → lookup (is_at (values_cmp q)) new ≡ cond (is_at (values_cmp key) q) image (lookup (is_at (values_cmp q)) old)
+has_by old new key image h q =
+    sym (found_by new q) ∙ h q ∙ rw (key_is-at key q) (ap (cond (is_at (values_cmp key) q) image) (found_by old q))
 
 -- a map of holders that has something else at one key
 pub holders_at-update : (old new : KeyHolders) (key : List Value) (image : Option (List (ℕ × Mode))) → ((q : List Value) → lookup (is_at (values_cmp q)) new ≡ cond (is_at (values_cmp key) q) image (lookup (is_at (values_cmp q)) old)) → SetsHolders old new key (unwrap_or image [])
@@ -58,6 +76,15 @@ sets_lock_at old new txn key image holders there sets other place =
 pub sets_key : (old new : KeyHolders) (txn : ℕ) (key : List Value) (image : Option Mode) (was : Option (List (ℕ × Mode))) (now : List (ℕ × Mode)) → was ≡ lookup (is_at (values_cmp key)) old → ((q : List Value) → lookup (is_at (values_cmp q)) new ≡ cond (is_at (values_cmp key) q) (Some now) (lookup (is_at (values_cmp q)) old)) → SetsMode (unwrap_or was []) now txn image → SetsLockAt old new txn key image
 sets_key old new txn key image was now found h sets =
     sets_lock_at old new txn key image now (holders_at-update old new key (Some now) h) (subst (λ o. SetsMode (unwrap_or o []) now txn image) found sets)
+
+-- what a key has among the entries tells what a transaction holds there
+pub held_by : (keys : KeyHolders) (txn : ℕ) (key : List Value) (found : Option (List (ℕ × Mode))) → found ≡ lookup (is_at (values_cmp key)) keys → mode_of (unwrap_or found []) txn ≡ mode_at keys txn key
+held_by keys txn key found e = ap (λ o. mode_of (unwrap_or o []) txn) e
+
+-- a lock that is raised among the holders of one key
+pub raises_key : (old new : KeyHolders) (txn : ℕ) (key : List Value) (mode : Mode) (was : Option (List (ℕ × Mode))) (now : List (ℕ × Mode)) → was ≡ lookup (is_at (values_cmp key)) old → ((q : List Value) → lookup (is_at (values_cmp q)) new ≡ cond (is_at (values_cmp key) q) (Some now) (lookup (is_at (values_cmp q)) old)) → SetsMode (unwrap_or was []) now txn (Some (stronger (mode_of (unwrap_or was []) txn) mode)) → SetsLockAt old new txn key (Some (stronger (mode_at old txn key) mode))
+raises_key old new txn key mode was now found h sets =
+    sets_key old new txn key (Some (stronger (mode_at old txn key) mode)) was now found h (subst (λ held. SetsMode (unwrap_or was []) now txn (Some (stronger held mode))) (held_by old txn key was found) sets)
 
 empty_same : (b : Bool) (held : Option Mode) → (b ≡ true → held ≡ None) → held ≡ cond b None held
 empty_same true held h = h refl
@@ -116,6 +143,15 @@ keys_found locks table found e = ap (λ o. unwrap_or o []) (e ∙ lookup_name lo
 pub sets_table : (old new : Locks) (txn : ℕ) (table : List ℕ) (key : List Value) (image : Option Mode) (was : Option KeyHolders) (now : KeyHolders) → was ≡ lookup (is_at (slice_cmp nat_cmp table)) old → ((q : List ℕ) → lookup (is_at (slice_cmp nat_cmp q)) new ≡ cond (is_at (slice_cmp nat_cmp table) q) (Some now) (lookup (is_at (slice_cmp nat_cmp q)) old)) → SetsLockAt (unwrap_or was []) now txn key image → SetsLock old new txn table key image
 sets_table old new txn table key image was now found h sets =
     sets_lock old new txn table key image now (keys_at-update old new table (Some now) h) (subst (λ ks. SetsLockAt ks now txn key image) (keys_found old table was found) sets)
+
+-- what a name has among the entries tells what a transaction holds at a key of it
+pub held_in : (locks : Locks) (txn : ℕ) (table : List ℕ) (key : List Value) (found : Option KeyHolders) → found ≡ lookup (is_at (slice_cmp nat_cmp table)) locks → mode_at (unwrap_or found []) txn key ≡ mode_held locks txn table key
+held_in locks txn table key found e = ap (λ ks. mode_at ks txn key) (keys_found locks table found e)
+
+-- a lock that is raised among the keys of one table
+pub raises_table : (old new : Locks) (txn : ℕ) (table : List ℕ) (key : List Value) (mode : Mode) (was : Option KeyHolders) (now : KeyHolders) → was ≡ lookup (is_at (slice_cmp nat_cmp table)) old → ((q : List ℕ) → lookup (is_at (slice_cmp nat_cmp q)) new ≡ cond (is_at (slice_cmp nat_cmp table) q) (Some now) (lookup (is_at (slice_cmp nat_cmp q)) old)) → SetsLockAt (unwrap_or was []) now txn key (Some (stronger (mode_at (unwrap_or was []) txn key) mode)) → LockedSo old new txn table key mode
+raises_table old new txn table key mode was now found h sets =
+    sets_table old new txn table key (Some (stronger (mode_held old txn table key) mode)) was now found h (subst (λ held. SetsLockAt (unwrap_or was []) now txn key (Some (stronger held mode))) (held_in old txn table key was found) sets)
 
 -- a table without locks has none to be freed
 pub frees_no_table : (locks : Locks) (txn : ℕ) (table : List ℕ) (key : List Value) → None ≡ lookup (is_at (slice_cmp nat_cmp table)) locks → SetsLock locks locks txn table key None

@@ -1,6 +1,6 @@
 // The transactions that hold one key.
-ghost use Rattle.std.specs.Prelude.{◌≡◌, ◌==◌, ◌↔◌, ℕ, [], Some, None, OnOk, OnErr, IsTrue, if◌then◌else◌};
-ghost use Rattle.sx_locks.specs.Modes.{mode_of, IsLeastOf};
+ghost use Rattle.std.specs.Prelude.{◌≡◌, ◌==◌, ◌↔◌, ℕ, [], Some, None, OnOk, OnErr, IfOk, IsTrue, if◌then◌else◌};
+ghost use Rattle.sx_locks.specs.Modes.{mode_of, stronger, IsLeastOf};
 
 use crate::Mode;
 use std::alloc::{AllocError, Global};
@@ -58,6 +58,18 @@ impl Holders {
     {
         self.modes.insert(txn, mode)?;
         Ok(())
+    }
+
+    // Makes a transaction a holder in the stronger of its mode and this one, and answers its mode before. Want of memory
+    // changes nothing.
+    pub(crate) fn raise(&mut self, txn: u64, mode: Mode) -> Result<Option<Mode>, AllocError>
+        ensures held { IfOk result (λ held. held ≡ mode_of self.old txn) }
+        ensures ok { OnOk result ((other : ℕ) → mode_of self.new other ≡ (if txn == other then Some (stronger (mode_of self.old txn) mode) else mode_of self.old other)) }
+        ensures err { OnErr result (self.new ≡ self.old) }
+    {
+        let held = self.mode_of(txn);
+        self.set(txn, mode.raised_from(held))?;
+        Ok(held)
     }
 
     // Makes a transaction no holder, and answers whether there is none now.

@@ -1,20 +1,20 @@
 // The locks on the keys of one table.
-ghost use Rattle.std.specs.Prelude.{◌≡◌, [], Some, None, OnOk, OnErr, IsTrue};
-ghost use Rattle.sx_locks.specs.Modes.{IsLeastOf};
+ghost use Rattle.std.specs.Prelude.{◌≡◌, [], Some, None, OnOk, OnErr, IfOk, IsTrue};
+ghost use Rattle.sx_locks.specs.Modes.{stronger, IsLeastOf};
 ghost use Rattle.sx_locks.specs.Locks.{holders_at, mode_at, SetsLockAt};
 
 use crate::Mode;
 use crate::holders::Holders;
 use std::alloc::{AllocError, Global};
-use std::collections::BTreeMap;
+use std::collections::HashMap;
 use std::marker::Model;
 use sx_lists::Copied;
 use sx_values::Key;
 
-// The holders of each key that has some.
+// The holders of each key that has some, found by a hash of the key.
 #[derive(Drop)]
 pub(crate) struct KeyLocks {
-    keys: BTreeMap<Key, Holders>,
+    keys: HashMap<Key, Holders>,
 }
 
 impl Model for KeyLocks {
@@ -31,7 +31,7 @@ impl KeyLocks {
         ensures { result ≡ [] }
     {
         KeyLocks {
-            keys: BTreeMap::new(alloc),
+            keys: HashMap::new(alloc),
         }
     }
 
@@ -55,25 +55,27 @@ impl KeyLocks {
         }
     }
 
-    // Locks a key in this mode. Want of memory changes no lock.
-    pub(crate) fn set(
+    // Locks a key in the stronger of this mode and what the transaction holds, and answers what it held. Want of memory
+    // changes no lock.
+    pub(crate) fn raise(
         &mut self,
         alloc: Global,
         txn: u64,
         key: &Key,
         mode: Mode,
-    ) -> Result<(), AllocError>
-        ensures ok { OnOk result (SetsLockAt self.old self.new txn key.now (Some mode)) }
+    ) -> Result<Option<Mode>, AllocError>
+        ensures held { IfOk result (λ held. held ≡ mode_at self.old txn key.now) }
+        ensures ok { OnOk result (SetsLockAt self.old self.new txn key.now (Some (stronger (mode_at self.old txn key.now) mode))) }
         ensures err { OnErr result (self.new ≡ self.old) }
     {
         match self.keys.get_mut(key) {
-            Some(holders) => holders.set(txn, mode),
+            Some(holders) => holders.raise(txn, mode),
             None => {
                 let key = key.copy(alloc)?;
                 let mut holders = Holders::new(alloc);
                 holders.set(txn, mode)?;
                 self.keys.insert(key, holders)?;
-                Ok(())
+                Ok(None)
             }
         }
     }
@@ -91,7 +93,7 @@ impl KeyLocks {
 }
 
 // Takes a transaction from the holders of a key, and answers whether none is left there.
-fn free_holder(keys: &mut BTreeMap<Key, Holders>, txn: u64, key: &Key) -> bool
+fn free_holder(keys: &mut HashMap<Key, Holders>, txn: u64, key: &Key) -> bool
     ensures freed { SetsLockAt keys.old.entries keys.new.entries txn key.now None }
     ensures bare { IsTrue result → holders_at keys.new.entries key.now ≡ [] }
 {

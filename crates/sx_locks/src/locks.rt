@@ -58,8 +58,28 @@ impl LockTable {
         match self.locks.least_other(txn, table, key, mode) {
             Some(by) => Ok(Asked::Held { by }),
             None => {
-                self.lock(txn, table, key, mode)?;
+                self.grant(txn, table, key, mode)?;
                 Ok(Asked::Granted)
+            }
+        }
+    }
+
+    /// Gives a transaction a lock that no other's conflicts with: it holds then the stronger of what it held and this
+    /// mode. Want of memory changes no lock.
+    pub fn grant(&mut self, txn: u64, table: &Name, key: &Key, mode: Mode) -> Result<(), AllocError>
+        requires free { IsLeastOther self.old txn table.now key.now mode None }
+        ensures ok { OnOk result (LockedSo self.old self.new txn table.now key.now mode) }
+        ensures err { OnErr result (SameLocks self.old self.new) }
+    {
+        let held = self.locks.raise(self.alloc, txn, table, key, mode)?;
+        if held.is_some() {
+            return Ok(());
+        }
+        match self.places.add(self.alloc, txn, table, key) {
+            Ok(()) => Ok(()),
+            Err(error) => {
+                self.locks.free(txn, table, key);
+                Err(error)
             }
         }
     }
@@ -91,26 +111,6 @@ impl LockTable {
         ensures { IsTrue result ↔ HoldsOn self.now txn table.now }
     {
         self.places.has_table(txn, table)
-    }
-
-    // Gives a transaction a lock that no other's conflicts with.
-    fn lock(&mut self, txn: u64, table: &Name, key: &Key, mode: Mode) -> Result<(), AllocError>
-        ensures ok { OnOk result (LockedSo self.old self.new txn table.now key.now mode) }
-        ensures err { OnErr result (SameLocks self.old self.new) }
-    {
-        let held = self.locks.mode_held(txn, table, key);
-        self.locks
-            .set(self.alloc, txn, table, key, mode.raised_from(held))?;
-        if held.is_some() {
-            return Ok(());
-        }
-        match self.places.add(self.alloc, txn, table, key) {
-            Ok(()) => Ok(()),
-            Err(error) => {
-                self.locks.free(txn, table, key);
-                Err(error)
-            }
-        }
     }
 }
 

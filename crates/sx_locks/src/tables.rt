@@ -1,6 +1,6 @@
 // The locks on the keys of each table.
-ghost use Rattle.std.specs.Prelude.{◌≡◌, [], Some, None, OnOk, OnErr};
-ghost use Rattle.sx_locks.specs.Locks.{mode_held, SetsLock, IsLeastOther};
+ghost use Rattle.std.specs.Prelude.{◌≡◌, [], Some, None, OnOk, OnErr, IfOk};
+ghost use Rattle.sx_locks.specs.Locks.{mode_held, SetsLock, LockedSo, IsLeastOther};
 
 use crate::Mode;
 use crate::keys::KeyLocks;
@@ -54,26 +54,28 @@ impl TableLocks {
         }
     }
 
-    // Locks a key of a table in this mode. Want of memory changes nothing.
-    pub(crate) fn set(
+    // Locks a key of a table in the stronger of this mode and what the transaction holds, and answers what it held. Want of
+    // memory changes nothing.
+    pub(crate) fn raise(
         &mut self,
         alloc: Global,
         txn: u64,
         table: &Name,
         key: &Key,
         mode: Mode,
-    ) -> Result<(), AllocError>
-        ensures ok { OnOk result (SetsLock self.old self.new txn table.now key.now (Some mode)) }
+    ) -> Result<Option<Mode>, AllocError>
+        ensures held { IfOk result (λ held. held ≡ mode_held self.old txn table.now key.now) }
+        ensures ok { OnOk result (LockedSo self.old self.new txn table.now key.now mode) }
         ensures err { OnErr result (self.new ≡ self.old) }
     {
         match self.tables.get_mut(table) {
-            Some(keys) => keys.set(alloc, txn, key, mode),
+            Some(keys) => keys.raise(alloc, txn, key, mode),
             None => {
                 let name = table.copy(alloc)?;
                 let mut keys = KeyLocks::new(alloc);
-                keys.set(alloc, txn, key, mode)?;
+                keys.raise(alloc, txn, key, mode)?;
                 self.tables.insert(name, keys)?;
-                Ok(())
+                Ok(None)
             }
         }
     }

@@ -164,3 +164,44 @@ fn assert_one_is_free(
     assert_answers(rt, locks, written, &asks)?;
     assert_answers(rt, locks, read, &asks)
 }
+
+#[test]
+fn a_lock_is_granted(rt: HostRuntime) -> Result<(), Fail> {
+    let alloc = rt.alloc();
+    let place = place(alloc, b"orders", 1)?;
+    let mut locks = LockTable::new(alloc);
+    grant(&rt, &mut locks, &place, 1, Mode::Shared)?;
+    grant(&rt, &mut locks, &place, 2, Mode::Shared)?;
+    assert_holds(
+        &rt,
+        &locks,
+        &place,
+        &[(1, Some(Mode::Shared)), (2, Some(Mode::Shared))],
+    );
+    locks.release_all(1);
+    grant(&rt, &mut locks, &place, 2, Mode::Exclusive)?;
+    assert_holds(
+        &rt,
+        &locks,
+        &place,
+        &[(1, None), (2, Some(Mode::Exclusive))],
+    );
+    Ok(())
+}
+
+// Gives a transaction a lock that none conflicts with.
+fn grant(
+    rt: &impl Abort,
+    locks: &mut LockTable,
+    place: &Place,
+    txn: u64,
+    mode: Mode,
+) -> Result<(), Fail> {
+    assert!(rt;
+        locks
+            .least_holder(txn, &place.table, &place.key, mode)
+            .is_none()
+    );
+    locks.grant(txn, &place.table, &place.key, mode)?;
+    Ok(())
+}

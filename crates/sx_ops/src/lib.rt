@@ -8,6 +8,7 @@ mod spec;
 #[cfg(test)]
 mod tests;
 
+pub use part::passes;
 pub use spec::{Cmp, Spec, SpecFault, Target, Test};
 use sx_lists::List;
 use sx_values::Row;

@@ -83,8 +83,8 @@ fn parted(
     Ok(Parts { passing, failing })
 }
 
-// Whether every test is true of a row.
-fn passes(columns: &[Column], tests: &[Test], row: &[Value]) -> bool
+/// Whether every test is true of a row of a table with these columns.
+pub fn passes(columns: &[Column], tests: &[Test], row: &[Value]) -> bool
     ensures { result ≡ passes columns.now tests.now row.now }
 {
     tests.iter().all(|test| is_true_in(columns, test, row))

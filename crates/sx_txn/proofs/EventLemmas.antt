@@ -8,7 +8,7 @@ use Rattle.sx_log.specs.declared.record.Body.TheVariants.{Write, Undo, Commit, A
 use Rattle.sx_log.specs.State.{after_body}
 use Rattle.sx_locks.specs.Locks.{Locks, SameLocks, Freed}
 use Rattle.sx_heap.specs.declared.tables.NamedTable.{NamedTable}
-use Rattle.sx_txn.specs.Managed.{Shape, Managed, Unchanged, AreTables, is_live, without, shape_of}
+use Rattle.sx_txn.specs.Managed.{Shape, Managed, Unchanged, AreTables, is_live, shape_of}
 use Rattle.sx_txn.specs.Turns.{Begins, Ends, Notes, IsNote}
 use Rattle.sx_txn.specs.Lives.{Kept, alive_all, fresh, kept_without}
 use Rattle.sx_txn.specs.Kept.{managed, AreNumbered, KeepsWrites, IsManaged, IsEnd}

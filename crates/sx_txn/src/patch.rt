@@ -152,7 +152,7 @@ pub(crate) fn take_lock(
     ensures ok { OnOk result (LockedSo locks.old locks.new txn table.now key.now mode) }
     ensures err { OnErr result (SameLocks locks.old locks.new) }
 {
-    locks.ask(txn, table, key, mode)?;
+    locks.grant(txn, table, key, mode)?;
     Ok(())
 }
 

@@ -33,12 +33,35 @@ impl Manager {
         ensures least { steps.old ≤ steps.new }
         ensures most { steps.new ≤ steps.old + 1 }
     {
+        let (read, _) = self.read_twice(txn, table, key, steps)?;
+        Ok(read)
+    }
+
+    /// The same, with its answer twice: to be kept, and to be told. Both are made before a lock is
+    /// taken.
+    pub fn read_twice<L: Ledger>(
+        &mut self,
+        txn: u64,
+        table: &Name,
+        key: &Key,
+        steps: &mut Steps<L>,
+    ) -> Result<(TxnRead, TxnRead), AllocError>
+        requires live { is_live self.old.living txn ≡ true }
+        requires resting { is_ending self.old.living txn ≡ false }
+        requires there { IsSome (schema_in self.old.shapes table.now) }
+        ensures ok { IfOk result (λ read. AnswersRead self.old self.new txn table.now key.now read.0) }
+        ensures same { IfOk result (λ read. read.1 ≡ read.0) }
+        ensures err { OnErr result (Unchanged self.old self.new) }
+        ensures least { steps.old ≤ steps.new }
+        ensures most { steps.new ≤ steps.old + 1 }
+    {
         match self.locks.least_holder(txn, table, key, Mode::Shared) {
-            Some(by) => Ok(TxnRead::Held { by }),
+            Some(by) => Ok((TxnRead::Held { by }, TxnRead::Held { by })),
             None => {
                 let row = self.row_found(table, key, steps)?;
+                let told = row.copy(self.alloc)?;
                 take_lock(&mut self.locks, txn, table, key, Mode::Shared)?;
-                Ok(read_of(row))
+                Ok((read_of(row), read_of(told)))
             }
         }
     }

@@ -8,20 +8,11 @@ use Rattle.sx_core.specs.Machines.{Machine}
 use Rattle.sx_core.proofs.TurnLemmas.{with_journal, memory_fails, fields, from_view, Holds, Leaves, stays, idle_stays, idle_now, live_there, ending_there, told_as, client_right}
 use Rattle.sx_core.specs.Refusals.{key_refused, read_told}
 use Rattle.sx_core.proofs.ReplyLemmas.{key_good}
-use Rattle.sx_core.proofs.ClientLemmas.{client_entry, Beside, AsksKey, table_is_there, table_is_named, row_shown, read_same, read_took}
+use Rattle.sx_core.proofs.ClientLemmas.{client_entry, Beside, AsksKey, table_is_there, read_took}
 use Rattle.sx_core.proofs.machine.Core.read_there.Goals as goal
 
-pub row_there-requires : goal.row_there-requires
-row_there-requires g c =
-    let i = c.self.inside in
-    let f = fields i.manager i.journal.spare i.clients.newest i.new_tables i.phase i.spec i.cursor in
-    let holds : Holds i.catalog i.loads i.journal.newest f c.args.self.now = record { within = c.self.invariant.0; kept = c.self.invariant.1; view = c.self.view_is } in
-    let admitted = from_view (λ (x : Machine). key_refused (schema_of x.opening.catalog c.args.table) c.args.key ≡ None) _ i.journal.newest c.args.self.now c.self.view_is c.requires.admitted in
-    let good = key_good (schema_of i.catalog c.args.table) c.args.key admitted in
-    table_is_named i.catalog i.loads i.journal.newest f c.args.self.now c.tables.result.now c.args.table c.args.key holds c.tables.ensures.tables good
-
-pub read-requires : goal.read-requires
-read-requires g c =
+pub read_twice-requires : goal.read_twice-requires
+read_twice-requires g c =
     let i = c.self.inside in
     let f = fields i.manager i.journal.spare i.clients.newest i.new_tables i.phase i.spec i.cursor in
     let holds : Holds i.catalog i.loads i.journal.newest f c.args.self.now = record { within = c.self.invariant.0; kept = c.self.invariant.1; view = c.self.view_is } in
@@ -38,7 +29,7 @@ invariant_of-self-in_err-read g c =
     let i = c.self.inside in
     let f = fields i.manager i.journal.spare i.clients.newest i.new_tables i.phase i.spec i.cursor in
     let holds : Holds i.catalog i.loads i.journal.newest f c.args.self.now = record { within = c.self.invariant.0; kept = c.self.invariant.1; view = c.self.view_is } in
-    let g = fields c.read.new.self c.reserve.new.self.spare i.clients.newest i.new_tables i.phase i.spec i.cursor in
+    let g = fields c.read_twice.new.self c.reserve.new.self.spare i.clients.newest i.new_tables i.phase i.spec i.cursor in
     let leaves : Leaves f g = record { managed = c.in_err-read.ensures.err; clients = refl; room = c.reserve.ensures.no_less; new_tables = refl; now = refl; spec = refl } in
     let h = with_journal i.catalog i.loads i.journal.newest c.reserve.new.self.newest g c.args.self.now c.reserve.ensures.items (stays i.catalog i.loads i.journal.newest f g c.args.self.now holds leaves (idle_stays _ i.journal.newest f g (idle_now i.catalog i.loads i.journal.newest f c.args.self.now holds c.requires.comes.idle) refl refl)) in
     (h.within, h.kept)
@@ -48,7 +39,7 @@ returns-in_err-read g c =
     let i = c.self.inside in
     let f = fields i.manager i.journal.spare i.clients.newest i.new_tables i.phase i.spec i.cursor in
     let holds : Holds i.catalog i.loads i.journal.newest f c.args.self.now = record { within = c.self.invariant.0; kept = c.self.invariant.1; view = c.self.view_is } in
-    let g = fields c.read.new.self c.reserve.new.self.spare i.clients.newest i.new_tables i.phase i.spec i.cursor in
+    let g = fields c.read_twice.new.self c.reserve.new.self.spare i.clients.newest i.new_tables i.phase i.spec i.cursor in
     let leaves : Leaves f g = record { managed = c.in_err-read.ensures.err; clients = refl; room = c.reserve.ensures.no_less; new_tables = refl; now = refl; spec = refl } in
     let h = with_journal i.catalog i.loads i.journal.newest c.reserve.new.self.newest g c.args.self.now c.reserve.ensures.items (stays i.catalog i.loads i.journal.newest f g c.args.self.now holds leaves (idle_stays _ i.journal.newest f g (idle_now i.catalog i.loads i.journal.newest f c.args.self.now holds c.requires.comes.idle) refl refl)) in
     let m = c.args.self.now in
@@ -61,7 +52,7 @@ invariant_of-self-2 g c =
     let holds : Holds i.catalog i.loads i.journal.newest f c.args.self.now = record { within = c.self.invariant.0; kept = c.self.invariant.1; view = c.self.view_is } in
     let admitted = from_view (λ (x : Machine). key_refused (schema_of x.opening.catalog c.args.table) c.args.key ≡ None) _ i.journal.newest c.args.self.now c.self.view_is c.requires.admitted in
     let good = key_good (schema_of i.catalog c.args.table) c.args.key admitted in
-    let g = fields c.read.new.self c.append.new.self.spare i.clients.newest i.new_tables i.phase i.spec i.cursor in
+    let g = fields c.read_twice.new.self c.append.new.self.spare i.clients.newest i.new_tables i.phase i.spec i.cursor in
     let asks : AsksKey i.catalog i.loads i.journal.newest f c.args.self.now c.args.actor c.args.txn c.args.table c.args.key =
     record { holds = holds; comes = c.requires.comes; place = c.requires.place; in_txn = c.requires.inside; good = good } in
     let room : length i.clients.newest ≤ c.append.new.self.spare = omega (arith, c.in_ok-reserve.ensures.room, c.append.ensures.room, c.room_and.ensures) in
@@ -78,7 +69,7 @@ returns g c =
     let holds : Holds i.catalog i.loads i.journal.newest f c.args.self.now = record { within = c.self.invariant.0; kept = c.self.invariant.1; view = c.self.view_is } in
     let admitted = from_view (λ (x : Machine). key_refused (schema_of x.opening.catalog c.args.table) c.args.key ≡ None) _ i.journal.newest c.args.self.now c.self.view_is c.requires.admitted in
     let good = key_good (schema_of i.catalog c.args.table) c.args.key admitted in
-    let g = fields c.read.new.self c.append.new.self.spare i.clients.newest i.new_tables i.phase i.spec i.cursor in
+    let g = fields c.read_twice.new.self c.append.new.self.spare i.clients.newest i.new_tables i.phase i.spec i.cursor in
     let asks : AsksKey i.catalog i.loads i.journal.newest f c.args.self.now c.args.actor c.args.txn c.args.table c.args.key =
     record { holds = holds; comes = c.requires.comes; place = c.requires.place; in_txn = c.requires.inside; good = good } in
     let room : length i.clients.newest ≤ c.append.new.self.spare = omega (arith, c.in_ok-reserve.ensures.room, c.append.ensures.room, c.room_and.ensures) in
@@ -86,6 +77,6 @@ returns g c =
     let longer = c.append.ensures.item ∙ ap (λ r. client_entry c.args.actor (request.Read c.args.table c.args.key) r ∷ c.reserve.new.self.newest) c.read_told.ensures
     ∙ ap (λ l. client_entry c.args.actor (request.Read c.args.table c.args.key) (read_told c.in_ok-read.read) ∷ l) c.reserve.ensures.items in
     let t = read_took i.catalog i.loads i.journal.newest c.append.new.self.newest f g c.args.self.now c.args.actor c.args.txn c.args.table c.args.key c.in_ok-read.read asks c.in_ok-read.ensures.ok refl beside longer in
-    let same = read_same i.manager c.read.new.self c.args.txn c.args.table c.args.key c.in_ok-read.read c.in_ok-row.row c.in_ok-read.ensures.ok (row_shown i.catalog i.loads i.journal.newest f c.args.self.now c.tables.result.now c.args.table c.args.key c.in_ok-row.row holds c.tables.ensures.tables c.in_ok-row.ensures) in
-    let told = told_as i.catalog i.loads c.append.new.self.newest g c.args.self.now c.args.actor (Client (request.Read c.args.table c.args.key)) (read_told c.in_ok-read.read) c.read_told_of-answer.result (c.read_told_of-answer.ensures ∙ same) t in
-    (client_right _ _ c.args.actor (request.Read c.args.table c.args.key) c.read_told_of-answer.result told.turns, told.turns)
+    let same = ap read_told c.in_ok-read.ensures.same in
+    let told = told_as i.catalog i.loads c.append.new.self.newest g c.args.self.now c.args.actor (Client (request.Read c.args.table c.args.key)) (read_told c.in_ok-read.read) c.read_told-2.result (c.read_told-2.ensures ∙ same) t in
+    (client_right _ _ c.args.actor (request.Read c.args.table c.args.key) c.read_told-2.result told.turns, told.turns)
