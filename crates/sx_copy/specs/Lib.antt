@@ -1,0 +1,4 @@
+pub mod Changes
+pub mod CopyLists
+pub mod FreshTables
+pub mod Readings

@@ -1,0 +1,2 @@
+pub mod PartImages
+pub mod Stamping
