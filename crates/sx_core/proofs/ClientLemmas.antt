@@ -1,5 +1,5 @@
 -- A client's turn, outcome by outcome: from what the manager answers to what the fields keep.
-use Rattle.std.proofs.Common.{◌≡◌, ◌≤◌, ◌+◌, ◌∷◌, [], ℕ, false, List, length, Option, Some, None, refl, sym, ◌∙◌, ap, subst, inl, inr, IsSome}
+use Rattle.std.proofs.Common.{◌≡◌, ◌≤◌, ◌+◌, ◌∷◌, [], ℕ, false, List, length, Option, Some, None, refl, sym, ◌∙◌, ap, subst, inl, inr, IsSome, is_some}
 use Rattle.sx_values.specs.declared.value.Value.{Value}
 use Rattle.sx_values.specs.declared.catalog.Declared.{Declared}
 use Rattle.sx_values.specs.Layouts.{Layout, key_fault}
@@ -8,7 +8,7 @@ use Rattle.sx_values.specs.Catalogs.{schema_of}
 use Rattle.sx_log.specs.declared.record.Rec.{Rec}
 use Rattle.sx_log.specs.declared.record.Body.TheVariants.{Write, Commit, Abort}
 use Rattle.sx_log.specs.State.{row_left}
-use Rattle.sx_log.specs.Undoing.{writes_left, undo_record, undo_last}
+use Rattle.sx_log.specs.Undoing.{Rows, writes_left, undo_record, undo_last}
 use Rattle.sx_locks.specs.declared.mode.Mode.TheVariants.{Shared, Exclusive}
 use Rattle.sx_txn.specs.declared.answers.Change.{Change}
 use Rattle.sx_txn.specs.declared.answers.Change.TheVariants.{Insert, Replace, Delete}
@@ -16,9 +16,9 @@ use Rattle.sx_txn.specs.declared.answers.TxnRead.{TxnRead}
 use Rattle.sx_txn.specs.declared.answers.TxnRead.TheVariants as read
 use Rattle.sx_txn.specs.declared.answers.TxnWrite.{TxnWrite}
 use Rattle.sx_txn.specs.declared.answers.TxnWrite.TheVariants as write
-use Rattle.sx_txn.specs.Managed.{Unchanged, schema_in}
-use Rattle.sx_txn.specs.Turns.{Begins as ManagerBegins, Reads as ManagerReads, Writes as ManagerWrites, Ends, Undoes as ManagerUndoes, Hinders, CanChange, FitsSchema, key_of_change, image_of}
-use Rattle.sx_txn.specs.Answers.{AnswersRead, AnswersWrite, AnswersAt, Refuses, Makes, Aborts as ManagerAborts}
+use Rattle.sx_txn.specs.Managed.{OwnMeets, Unchanged, schema_in, row_now as has_now}
+use Rattle.sx_txn.specs.Turns.{Begins as ManagerBegins, Reads as ManagerReads, Writes as ManagerWrites, Ends, Undoes as ManagerUndoes, Hinders, CanChange, FitsSchema, key_of_change, image_of, CanUndoLast}
+use Rattle.sx_txn.specs.Answers.{AnswersRead, AnswersWrite, AnswersAt, Refuses, Makes, Aborts as ManagerAborts, refusal}
 use Rattle.sx_sync.specs.declared.Phase.TheVariants.{Idle}
 use Rattle.sx_journal.specs.declared.entry.Entry.{Entry}
 use Rattle.sx_journal.specs.declared.entry.Event.TheVariants.{Client}
@@ -41,7 +41,7 @@ use Rattle.sx_core.specs.Asked.{Comes, HasPlace, IsInside, asked_for}
 use Rattle.sx_core.specs.Refusals.{change_fault, read_told, write_told}
 use Rattle.sx_core.proofs.LivingLemmas.{one_fewer}
 use Rattle.sx_core.proofs.HolderLemmas.{holder-named, holder-none}
-use Rattle.sx_core.proofs.ManagerLemmas.{meets-quiet, meets-begun, meets-read, meets-written, meets-ended, meets-undone, commit_ends, abort_ends}
+use Rattle.sx_core.proofs.ManagerLemmas.{row-own, undo-made, meets-quiet, meets-begun, meets-read, meets-written, meets-ended, meets-undone, commit_ends, abort_ends}
 use Rattle.sx_core.proofs.ReplyLemmas.{begin-answered, undone-answered, aborted-answered, commit-answered, read-answered, change-answered, IsGood, change_told, told-done, told-exists, told-missing, change-key, read-key, change-record, effect-row, effect-absent, effect-begun, effect-done, effect-committed, effect-undone, effect-aborted, quiet-held, quiet-exists, quiet-missing, committed-true}
 use Rattle.sx_core.proofs.TurnLemmas.{Holds, from_view, Longer, no_longer, by_one, Took, took, opened, idle_now, phase_by, started_told, next_there}
 
@@ -75,6 +75,7 @@ kept-client o past f g e kept idle entry leaves beside =
     let is : IsIdle (e ∷ past) g.spec g.new_tables = record { none = leaves.started ∙ was.none; no_tables = beside.new_tables ∙ was.no_tables } in
     record {
       legal = (kept.legal, entry);
+      loads_fit = kept.loads_fit;
       manager_meets = leaves.manager;
       clients_are = leaves.clients;
       room = beside.room;
@@ -179,12 +180,12 @@ committed_took catalog loads past journal f g m actor txn lsn holds comes in_txn
 
 -- ** an undo **
 
-leaves-undone : (o : Opening) (past : List Entry) (f g : Fields) (actor txn lsn : ℕ) → IsKept o past f → ManagerUndoes f.managed g.managed txn lsn → txn_of past actor ≡ Some txn → g.clients ≡ f.clients
+leaves-undone : (o : Opening) (past : List Entry) (f g : Fields) (actor txn lsn : ℕ) → IsKept o past f → OwnMeets f.managed → CanUndoLast f.managed txn → ManagerUndoes f.managed g.managed txn lsn → txn_of past actor ≡ Some txn → g.clients ≡ f.clients
     → ClientLeaves o past f g (client_entry actor request.Undo (reply.Undone lsn))
-leaves-undone o past f g actor txn lsn kept undoes inside clients =
+leaves-undone o past f g actor txn lsn kept own can undoes inside clients =
     let told = effect-undone lsn in
     record {
-      manager = meets-undone o past f.managed g.managed (client_entry actor request.Undo (reply.Undone lsn)) txn lsn kept.manager_meets undoes told inside;
+      manager = meets-undone o past f.managed g.managed (client_entry actor request.Undo (reply.Undone lsn)) txn lsn kept.manager_meets own can undoes told inside;
       clients = clients ∙ kept.clients_are ∙ sym (living_by past (client_entry actor request.Undo (reply.Undone lsn)) Undoes told);
       phase = phase_by past (client_entry actor request.Undo (reply.Undone lsn)) Undoes told;
       started = started_told past (client_entry actor request.Undo (reply.Undone lsn)) Undoes told;
@@ -194,22 +195,22 @@ leaves-undone o past f g actor txn lsn kept undoes inside clients =
 pub data IsLeft (left : List ℕ) : Type 0 where
   is_left : (lsn : ℕ) (rest : List ℕ) → left ≡ lsn ∷ rest → IsLeft left
 
-left_of : (log : List Rec) (txn : ℕ) (left : List ℕ) (back : Rec) → undo_last log txn left ≡ Some back → IsLeft left
-left_of log txn [] back made = absurd (cc)
-left_of log txn (lsn ∷ rest) back made = is_left lsn rest refl
+left_of : (there : Rows) (log : List Rec) (txn : ℕ) (left : List ℕ) (back : Rec) → undo_last there log txn left ≡ Some back → IsLeft left
+left_of there log txn [] back made = absurd (cc)
+left_of there log txn (lsn ∷ rest) back made = is_left lsn rest refl
 
 pub undone_took : (catalog : List Declared) (loads : ℕ) (past journal : List Entry) (f g : Fields) (m : Machine) (actor txn lsn : ℕ)
-    → Holds catalog loads past f m → Comes m actor → HasPlace m → txn_of m.past actor ≡ Some txn
+    → Holds catalog loads past f m → Comes m actor → HasPlace m → txn_of m.past actor ≡ Some txn → OwnMeets f.managed → CanUndoLast f.managed txn
     → ManagerUndoes f.managed g.managed txn lsn → g.clients ≡ f.clients → Beside f g → journal ≡ client_entry actor request.Undo (reply.Undone lsn) ∷ past
     → Took catalog loads journal g m actor (Client request.Undo) (reply.Undone lsn)
-undone_took catalog loads past journal f g m actor txn lsn holds comes place in_txn undoes clients beside is =
+undone_took catalog loads past journal f g m actor txn lsn holds comes place in_txn own can undoes clients beside is =
     let inside = inside_here catalog loads past f m actor txn holds in_txn in
     let next = next_there (opened catalog loads f.managed.log) past f.managed lsn holds.kept.manager_meets undoes.place in
-    let made : undo_record (log_of (opened catalog loads f.managed.log) past) txn ≡ Some undoes.back = ap (λ l. undo_record l txn) (sym holds.kept.manager_meets.log_is) ∙ undoes.made in
-    let answered = by inside (left_of (log_of (opened catalog loads f.managed.log) past) txn (writes_left txn (log_of (opened catalog loads f.managed.log) past)) undoes.back made) in
+    let made = undo-made (opened catalog loads f.managed.log) past f.managed txn undoes.back holds.kept.manager_meets own can undoes.made in
+    let answered = by inside (left_of (row_left (log_of (opened catalog loads f.managed.log) past)) (log_of (opened catalog loads f.managed.log) past) txn (writes_left txn (log_of (opened catalog loads f.managed.log) past)) undoes.back made) in
     client_took catalog loads past journal f g m actor request.Undo (reply.Undone lsn) holds comes (place_here catalog loads past f m (reply.Undone lsn) holds place) (by_one undoes.back undoes.log) is
     (ap reply.Undone next ∙ sym answered)
-    (leaves-undone (opened catalog loads f.managed.log) past f g actor txn lsn holds.kept undoes inside clients) beside
+    (leaves-undone (opened catalog loads f.managed.log) past f g actor txn lsn holds.kept own can undoes inside clients) beside
   where
     by : txn_of past actor ≡ Some txn → IsLeft (writes_left txn (log_of (opened catalog loads f.managed.log) past)) → client_reply (opened catalog loads f.managed.log) past actor request.Undo ≡ reply.Undone (next_lsn (opened catalog loads f.managed.log) past)
     by inside (is_left first rest left) = undone-answered (opened catalog loads f.managed.log) past actor txn first rest inside left
@@ -237,6 +238,25 @@ aborted_took catalog loads past journal f g m actor txn lsn holds comes place in
     (ap reply.Aborted next ∙ sym (aborted-answered (opened catalog loads f.managed.log) past actor txn inside left))
     (leaves-aborted (opened catalog loads f.managed.log) past f g actor txn lsn holds.kept aborts.ends inside clients) beside
 
+-- ** what a table has **
+
+-- the schemas of the manager's tables are the declared ones
+schema_shape : (catalog : List Declared) (table : List ℕ) → schema_in (shapes_of catalog) table ≡ schema_of catalog table
+schema_shape [] table = refl
+schema_shape (d ∷ catalog) table = by_cases (same_name d.name table) (λ t. rw t refl) (λ f. rw f (schema_shape catalog table))
+
+pub schema_there : (catalog : List Declared) (loads : ℕ) (past : List Entry) (f : Fields) (m : Machine) (table : List ℕ) → Holds catalog loads past f m → schema_in f.managed.shapes table ≡ schema_of catalog table
+schema_there catalog loads past f m table holds = ap (λ shapes. schema_in shapes table) holds.kept.manager_meets.shapes ∙ schema_shape catalog table
+
+pub table_is_there : (catalog : List Declared) (loads : ℕ) (past : List Entry) (f : Fields) (m : Machine) (table : List ℕ) (key : List Value) → Holds catalog loads past f m → IsGood (schema_of catalog table) (λ schema. key_fault schema key) → IsSome (schema_in f.managed.shapes table)
+table_is_there catalog loads past f m table key holds good = subst IsSome (sym (schema_there catalog loads past f m table holds ∙ good.declared)) refl
+
+-- a table that the catalog declares has what the log leaves
+pub has_left : (catalog : List Declared) (loads : ℕ) (past : List Entry) (f : Fields) (m : Machine) (table : List ℕ) (key : List Value) (layout : Layout) → Holds catalog loads past f m → OwnMeets f.managed → schema_of catalog table ≡ Some layout
+    → has_now f.managed.tables table key ≡ row_left f.managed.log table key
+has_left catalog loads past f m table key layout holds own declared =
+    row-own (opened catalog loads f.managed.log) past f.managed table key holds.kept.manager_meets own (ap is_some (schema_there catalog loads past f m table holds ∙ declared))
+
 -- ** a read **
 
 leaves-read : (o : Opening) (past : List Entry) (f g : Fields) (actor txn : ℕ) (table : List ℕ) (key : List Value) (row : Option (List Value)) (answer : Reply) → IsKept o past f → ManagerReads f.managed g.managed txn table key row
@@ -255,6 +275,7 @@ pub record AsksKey (catalog : List Declared) (loads : ℕ) (past : List Entry) (
   pub comes : Comes m actor
   pub place : HasPlace m
   pub in_txn : IsInside m actor txn
+  pub own : OwnMeets f.managed
   pub good : IsGood (schema_of catalog table) (λ schema. key_fault schema key)
 
 shown-row : (row : Option (List Value)) → effect (read_answer row) ≡ Reads
@@ -270,7 +291,7 @@ shown_took catalog loads past journal f g m actor txn table key row asks reads c
     let rests = rests_here catalog loads past f m txn asks.holds asks.in_txn.resting in
     let meets = asks.holds.kept.manager_meets in
     let free = holder-none (opened catalog loads f.managed.log) past f.managed txn table key Shared meets reads.locks.free in
-    let there : row_now (opened catalog loads f.managed.log) past table key ≡ row = ap (λ l. row_left l table key) (sym meets.log_is) ∙ reads.there in
+    let there : row_now (opened catalog loads f.managed.log) past table key ≡ row = ap (λ l. row_left l table key) (sym meets.log_is) ∙ sym (has_left catalog loads past f m table key asks.good.schema asks.holds asks.own asks.good.declared) ∙ reads.there in
     client_took catalog loads past journal f g m actor (request.Read table key) (read_answer row) asks.holds asks.comes (place_here catalog loads past f m (read_answer row) asks.holds asks.place) (no_longer reads.log) is
     (sym (read-answered (opened catalog loads f.managed.log) past actor txn table key inside rests asks.good
     ∙ ap (λ by. unless_held by (read_answer (row_now (opened catalog loads f.managed.log) past table key))) free ∙ ap read_answer there))
@@ -305,6 +326,7 @@ pub record AsksChange (catalog : List Declared) (loads : ℕ) (past : List Entry
   pub comes : Comes m actor
   pub place : HasPlace m
   pub in_txn : IsInside m actor txn
+  pub own : OwnMeets f.managed
   pub good : IsGood (schema_of catalog table) (λ schema. change_fault schema change)
 
 -- the key that it is about
@@ -350,7 +372,7 @@ pub change_exists : (catalog : List Declared) (loads : ℕ) (past journal : List
 change_exists catalog loads past journal f g m actor txn table change asks refuses clients beside is =
     let free = holder-none (opened catalog loads f.managed.log) past f.managed txn table (key_of_change asks.good.schema change) Exclusive asks.holds.kept.manager_meets refuses.free in
     change_quiet catalog loads past journal f g m actor txn table change reply.Exists asks refuses.same clients beside is
-    (sym (free_answered catalog loads past f m actor txn table change asks free ∙ told-exists (opened catalog loads f.managed.log) past change (row_left f.managed.log table (key_of_change asks.good.schema change)) refuses.refused))
+    (sym (free_answered catalog loads past f m actor txn table change asks free ∙ told-exists (opened catalog loads f.managed.log) past change (row_left f.managed.log table (key_of_change asks.good.schema change)) (ap (refusal change) (sym (has_left catalog loads past f m table (key_of_change asks.good.schema change) asks.good.schema asks.holds asks.own asks.good.declared)) ∙ refuses.refused)))
     quiet-exists
 
 pub change_missing : (catalog : List Declared) (loads : ℕ) (past journal : List Entry) (f g : Fields) (m : Machine) (actor txn : ℕ) (table : List ℕ) (change : Change)
@@ -359,16 +381,17 @@ pub change_missing : (catalog : List Declared) (loads : ℕ) (past journal : Lis
 change_missing catalog loads past journal f g m actor txn table change asks refuses clients beside is =
     let free = holder-none (opened catalog loads f.managed.log) past f.managed txn table (key_of_change asks.good.schema change) Exclusive asks.holds.kept.manager_meets refuses.free in
     change_quiet catalog loads past journal f g m actor txn table change reply.Missing asks refuses.same clients beside is
-    (sym (free_answered catalog loads past f m actor txn table change asks free ∙ told-missing (opened catalog loads f.managed.log) past change (row_left f.managed.log table (key_of_change asks.good.schema change)) refuses.refused))
+    (sym (free_answered catalog loads past f m actor txn table change asks free ∙ told-missing (opened catalog loads f.managed.log) past change (row_left f.managed.log table (key_of_change asks.good.schema change)) (ap (refusal change) (sym (has_left catalog loads past f m table (key_of_change asks.good.schema change) asks.good.schema asks.holds asks.own asks.good.declared)) ∙ refuses.refused)))
     quiet-missing
 
 leaves-written : (o : Opening) (past : List Entry) (f g : Fields) (actor txn : ℕ) (table : List ℕ) (change : Change) (layout : Layout) (lsn : ℕ) → IsKept o past f → schema_of o.catalog table ≡ Some layout
-    → ManagerWrites f.managed g.managed txn table (key_of_change layout change) (image_of change) lsn → txn_of past actor ≡ Some txn → g.clients ≡ f.clients
+    → ManagerWrites f.managed g.managed txn table (key_of_change layout change) (image_of change) lsn → has_now f.managed.tables table (key_of_change layout change) ≡ row_left f.managed.log table (key_of_change layout change)
+    → txn_of past actor ≡ Some txn → g.clients ≡ f.clients
     → ClientLeaves o past f g (client_entry actor (asked_for table change) (reply.Done lsn))
-leaves-written o past f g actor txn table change layout lsn kept declared writes inside clients =
+leaves-written o past f g actor txn table change layout lsn kept declared writes was inside clients =
     let told = effect-done lsn in
     record {
-      manager = meets-written o past f.managed g.managed (client_entry actor (asked_for table change) (reply.Done lsn)) txn table (key_of_change layout change) (image_of change) lsn kept.manager_meets writes told inside
+      manager = meets-written o past f.managed g.managed (client_entry actor (asked_for table change) (reply.Done lsn)) txn table (key_of_change layout change) (image_of change) lsn kept.manager_meets writes was told inside
           (change-key o.catalog table layout change declared) (change-record o.catalog (log_of o past) txn table layout change declared);
       clients = clients ∙ kept.clients_are ∙ sym (living_by past (client_entry actor (asked_for table change) (reply.Done lsn)) Writes told);
       phase = phase_by past (client_entry actor (asked_for table change) (reply.Done lsn)) Writes told;
@@ -384,9 +407,9 @@ change_done catalog loads past journal f g m actor txn table change lsn asks mak
     let next = next_there (opened catalog loads f.managed.log) past f.managed lsn meets makes.writes.place in
     let free = holder-none (opened catalog loads f.managed.log) past f.managed txn table (key_of_change asks.good.schema change) Exclusive meets makes.writes.locks.free in
     client_took catalog loads past journal f g m actor (asked_for table change) (reply.Done lsn) asks.holds asks.comes (place_here catalog loads past f m (reply.Done lsn) asks.holds asks.place)
-    (by_one (record { txn = txn; body = Write table (key_of_change asks.good.schema change) (row_left f.managed.log table (key_of_change asks.good.schema change)) (image_of change) }) makes.writes.log) is
-    (ap reply.Done next ∙ sym (free_answered catalog loads past f m actor txn table change asks free ∙ told-done (opened catalog loads f.managed.log) past change (row_left f.managed.log table (key_of_change asks.good.schema change)) makes.allowed))
-    (leaves-written (opened catalog loads f.managed.log) past f g actor txn table change asks.good.schema lsn asks.holds.kept asks.good.declared makes.writes inside clients) beside
+    (by_one (record { txn = txn; body = Write table (key_of_change asks.good.schema change) (has_now f.managed.tables table (key_of_change asks.good.schema change)) (image_of change) }) makes.writes.log) is
+    (ap reply.Done next ∙ sym (free_answered catalog loads past f m actor txn table change asks free ∙ told-done (opened catalog loads f.managed.log) past change (row_left f.managed.log table (key_of_change asks.good.schema change)) (ap (refusal change) (sym (has_left catalog loads past f m table (key_of_change asks.good.schema change) asks.good.schema asks.holds asks.own asks.good.declared)) ∙ makes.allowed)))
+    (leaves-written (opened catalog loads f.managed.log) past f g actor txn table change asks.good.schema lsn asks.holds.kept asks.good.declared makes.writes (has_left catalog loads past f m table (key_of_change asks.good.schema change) asks.good.schema asks.holds asks.own asks.good.declared) inside clients) beside
 
 -- whatever the manager answers to a change
 changed_took : (catalog : List Declared) (loads : ℕ) (past journal : List Entry) (f g : Fields) (m : Machine) (actor txn : ℕ) (table : List ℕ) (change : Change) (answer : TxnWrite)
@@ -396,14 +419,6 @@ changed_took catalog loads past journal f g m actor txn table change (write.Done
 changed_took catalog loads past journal f g m actor txn table change (write.Held by) asks answers clients beside is = change_held catalog loads past journal f g m actor txn table change by asks answers clients beside is
 changed_took catalog loads past journal f g m actor txn table change write.Exists asks answers clients beside is = change_exists catalog loads past journal f g m actor txn table change asks answers clients beside is
 changed_took catalog loads past journal f g m actor txn table change write.Missing asks answers clients beside is = change_missing catalog loads past journal f g m actor txn table change asks answers clients beside is
-
--- the schemas of the manager's tables are the declared ones
-schema_shape : (catalog : List Declared) (table : List ℕ) → schema_in (shapes_of catalog) table ≡ schema_of catalog table
-schema_shape [] table = refl
-schema_shape (d ∷ catalog) table = by_cases (same_name d.name table) (λ t. rw t refl) (λ f. rw f (schema_shape catalog table))
-
-pub schema_there : (catalog : List Declared) (loads : ℕ) (past : List Entry) (f : Fields) (m : Machine) (table : List ℕ) → Holds catalog loads past f m → schema_in f.managed.shapes table ≡ schema_of catalog table
-schema_there catalog loads past f m table holds = ap (λ shapes. schema_in shapes table) holds.kept.manager_meets.shapes ∙ schema_shape catalog table
 
 pub write_took : (catalog : List Declared) (loads : ℕ) (past journal : List Entry) (f g : Fields) (m : Machine) (actor txn : ℕ) (table : List ℕ) (change : Change) (answer : TxnWrite)
     → (asks : AsksChange catalog loads past f m actor txn table change) → AnswersWrite f.managed g.managed txn table change answer → g.clients ≡ f.clients → Beside f g
@@ -419,6 +434,3 @@ fits layout (Delete key) good = tt
 -- the manager can be asked for it
 pub can_change : (catalog : List Declared) (loads : ℕ) (past : List Entry) (f : Fields) (m : Machine) (table : List ℕ) (change : Change) → Holds catalog loads past f m → IsGood (schema_of catalog table) (λ schema. change_fault schema change) → CanChange f.managed.shapes table change
 can_change catalog loads past f m table change holds good = record { layout = good.schema; there = schema_there catalog loads past f m table holds ∙ good.declared; fits = fits good.schema change good.admitted }
-
-pub table_is_there : (catalog : List Declared) (loads : ℕ) (past : List Entry) (f : Fields) (m : Machine) (table : List ℕ) (key : List Value) → Holds catalog loads past f m → IsGood (schema_of catalog table) (λ schema. key_fault schema key) → IsSome (schema_in f.managed.shapes table)
-table_is_there catalog loads past f m table key holds good = subst IsSome (sym (schema_there catalog loads past f m table holds ∙ good.declared)) refl

@@ -1,5 +1,5 @@
 -- The rows of the new tables: filled in key order, and those of the source before.
-use Rattle.std.proofs.Common.{◌≡◌, ◌∷◌, ◌++◌, ◌||◌, ◌⊎◌, [], ℕ, List, Bool, true, false, cond, map, filter, not, Option, Some, None, Result, Ok, Err, IfOk, option_map, inl, inr, length, reverse, nat_eq, arith, refl, sym, ◌∙◌, ap, subst}
+use Rattle.std.proofs.Common.{◌≡◌, ◌∷◌, ◌++◌, ◌||◌, ◌⊎◌, [], ℕ, List, Bool, true, false, cond, map, filter, not, Option, Some, None, Result, Ok, Err, IfOk, option_map, if◌then◌else◌, inl, inr, length, reverse, nat_eq, arith, refl, sym, ◌∙◌, ap, subst}
 use Rattle.std.specs.List.{AllByRecursion, IsDistinct}
 use Rattle.std.specs.List.Sorted.{IsStrictlySortedBy}
 use Rattle.std.specs.declared.cmp.Ordering.TheVariants.{Less}
@@ -13,7 +13,7 @@ use Rattle.sx_values.specs.declared.catalog.Declared.{Declared}
 use Rattle.sx_values.specs.Values.{values_cmp}
 use Rattle.sx_values.specs.Layouts.{Layout, Admits, key_of}
 use Rattle.sx_values.specs.Names.{same_name}
-use Rattle.sx_values.specs.Catalogs.{schema_of, declared_as}
+use Rattle.sx_values.specs.Catalogs.{schema_of, declared_as, is_source}
 use Rattle.sx_heap.specs.declared.seen.Seen.{Seen}
 use Rattle.sx_heap.specs.declared.tables.NamedTable.{NamedTable}
 use Rattle.sx_heap.specs.Relations.{Relation, IsRelation, IsRowOf}
@@ -25,7 +25,7 @@ use Rattle.sx_ops.specs.declared.spec.Spec.TheVariants.{Join, Split, Part, Union
 use Rattle.sx_ops.specs.declared.spec.SpecFault.{SpecFault}
 use Rattle.sx_ops.specs.declared.spec.Test.{Test}
 use Rattle.sx_ops.specs.declared.spec.Target.{Target}
-use Rattle.sx_ops.specs.Checks.{IsShaped, spec_fault, part_fault, column_fault, types_fault, names_fault, is_declared}
+use Rattle.sx_ops.specs.Checks.{IsShaped, spec_fault, part_fault, column_fault, types_fault, names_fault, is_known}
 use Rattle.sx_ops.specs.Operators.{sources_of, targets_of, operator, passes, AreSourceRows, AreRowsOf}
 use Rattle.sx_ops.specs.Targets.{targets}
 use Rattle.sx_journal.specs.declared.entry.Entry.{Entry}
@@ -180,7 +180,7 @@ names_differ : (catalog : List Declared) (schema : Layout) (table : List ℕ) (t
     → part_fault catalog (Some schema) table tests passing failing ≡ None → same_name passing failing ≡ false
 names_differ catalog schema table tests passing failing none =
     let names = later_none (types_fault 1 schema.columns tests) (names_fault catalog passing failing) (later_none (column_fault schema.columns tests) _ none) in
-    neither_taken (is_declared catalog passing) (is_declared catalog failing) (same_name passing failing) _ _ names
+    neither_taken (is_known catalog passing) (is_known catalog failing) (same_name passing failing) _ _ names
 
 -- the rows of a source, as an operator takes them and makes new tables of them
 pub record SplitsInto (catalog : List Declared) (spec : Spec) (rows : List (List Value)) : Type 0 where
@@ -207,13 +207,19 @@ two_apart : (one other : List ℕ) → same_name one other ≡ false → IsDisti
 unfolding IsDistinct
 two_apart one other differ = ((differ, tt), (tt, tt))
 
+-- the table that a split names may be its source, so it has the schema that it is declared with
+known_source : (catalog : List Declared) (known : Bool) (schema : Option Layout) (table : List ℕ) (tests : List Test) (passing failing : List ℕ) → part_fault catalog (if known then schema else None) table tests passing failing ≡ None
+    → part_fault catalog schema table tests passing failing ≡ None
+known_source catalog true schema table tests passing failing fits = fits
+known_source catalog false schema table tests passing failing fits = absurd (cc)
+
 pub splits_into : (catalog : List Declared) (spec : Spec) (source : Relation)
     → IsRelation source → IsShaped spec → spec_fault catalog spec ≡ None → source_schema catalog spec ≡ Some source.schema → SplitsInto catalog spec (bare_rows source.rows)
 splits_into catalog (Part table tests passing failing) source is shaped fits declared =
     let order = rows_in_order source is in
     let p = passes source.schema.columns tests in
     let rows = bare_rows source.rows in
-    let fault : part_fault catalog (Some source.schema) table tests passing failing ≡ None = subst (λ s. part_fault catalog s table tests passing failing ≡ None) declared fits in
+    let fault : part_fault catalog (Some source.schema) table tests passing failing ≡ None = subst (λ s. part_fault catalog s table tests passing failing ≡ None) declared (known_source catalog (is_source catalog table) (schema_of catalog table) table tests passing failing fits) in
     record {
       sources = rw declared (are_rows source.schema rows order, tt);
       fill = rw declared (in_order-filter source.schema p rows order, (in_order-filter source.schema (λ row. not (p row)) rows order, tt));
@@ -236,7 +242,7 @@ source_meets catalog log tables (Part table tests passing failing) source meets 
     same : (other : Relation) → table_named tables table ≡ Some other → other ≡ source
     same other named = cc
 
-    by : (answer : Option Declared) → declared_as catalog table ≡ answer → part_fault catalog (option_map (λ (t : Declared). t.schema) answer) table tests passing failing ≡ None
+    by : (answer : Option Declared) → declared_as catalog table ≡ answer → part_fault catalog (if elim answer [ None ↦ false | Some t ↦ t.source ] then option_map (λ (t : Declared). t.schema) answer else None) table tests passing failing ≡ None
         → IsSourceOf catalog log (Part table tests passing failing) source
     by None none fault = absurd (cc)
     by (Some d) here fault =
@@ -255,7 +261,7 @@ pub source_there : (catalog : List Declared) (log : List Rec) (tables : List Nam
     → AreTables log (shapes_of catalog) tables → IsShaped spec → spec_fault catalog spec ≡ None → (source : Relation) × (source_table (Some spec) tables ≡ Some source)
 source_there catalog log tables (Part table tests passing failing) meets shaped fits = by (declared_as catalog table) refl fits
   where
-    by : (answer : Option Declared) → declared_as catalog table ≡ answer → part_fault catalog (option_map (λ (t : Declared). t.schema) answer) table tests passing failing ≡ None
+    by : (answer : Option Declared) → declared_as catalog table ≡ answer → part_fault catalog (if elim answer [ None ↦ false | Some t ↦ t.source ] then option_map (λ (t : Declared). t.schema) answer else None) table tests passing failing ≡ None
         → (source : Relation) × (table_named tables table ≡ Some source)
     by None none fault = absurd (cc)
     by (Some d) here fault =

@@ -11,7 +11,8 @@ use Rattle.sx_txn.specs.Managed.{Managed}
 use Rattle.sx_journal.specs.declared.entry.Entry.{Entry}
 use Rattle.sx_model.specs.Openings.{Opening}
 use Rattle.sx_model.specs.Leaves.{Living, living}
-use Rattle.sx_model.specs.Held.{lock_of, lesser, least, holder}
+use Rattle.sx_model.specs.Held.{lock_of, holder}
+use Rattle.sx_sync.specs.Ready.{lesser, least}
 use Rattle.sx_model.specs.Legal.{Legal}
 use Rattle.sx_model.proofs.TestLaws.{by_cases}
 use Rattle.sx_core.specs.Kept.{ManagerMeets}

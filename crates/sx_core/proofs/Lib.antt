@@ -11,4 +11,5 @@ mod ScanLemmas
 mod TableLemmas
 mod TransformLemmas
 mod TurnLemmas
+mod UndoLemmas
 mod WriteLemmas

@@ -2,7 +2,7 @@
 use Rattle.std.proofs.Common.{◌≡◌, ◌≤◌, ◌<◌, ◌+◌, ◌-◌, ◌∷◌, ◌++◌, ◌⊎◌, [], ℕ, zero, suc, List, Bool, true, false, ◌||◌, length, map, take, reverse, get_or, Option, Some, None, option_map, Result, Ok, Err, is_some, IsSomeAnd, inl, inr, refl, sym, ◌∙◌, ap, subst, arith, if◌then◌else◌}
 use Rattle.std.specs.Result.{IsErrAnd}
 use Rattle.std.specs.List.{AllByRecursion, IsDistinct, list_any}
-use Rattle.std.proofs.lemmas.List.{append_assoc, append-nil, reverse-append, map-append}
+use Rattle.std.proofs.lemmas.List.{append_assoc, append-nil, length-map, reverse-append, map-append}
 use Rattle.std.proofs.lemmas.List.Folds.{list_any-append}
 use Rattle.std.proofs.lemmas.Bool.{false≢true}
 use Rattle.sx_lists.specs.Answers.{or_later}
@@ -234,6 +234,7 @@ all_oldest log n is = let none : length log - n ≡ 0 = omega arith in rw none r
 -- what a new manager has
 pub record IsNew (managed : Managed) (base : Base) : Type 0 where
   pub shapes : managed.shapes ≡ map shape_of base.tables
+  pub own : managed.own ≡ length base.tables
   pub log : managed.log ≡ base.log.newest
   pub locks : managed.locks ≡ []
   pub living : managed.living ≡ []
@@ -250,6 +251,7 @@ made_kept catalog rows base loads past f are new counts none nobody no_tables id
       legal = tt;
       manager_meets = record {
         shapes = new.shapes ∙ are_shapes catalog base.log.newest base.tables are.meet;
+        own = new.own ∙ sym (ap length new.shapes ∙ length-map base.tables shape_of);
         log_is = sym all;
         begun = new.begun;
         living = ap alive_numbers new.living;

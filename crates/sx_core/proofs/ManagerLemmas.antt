@@ -1,22 +1,26 @@
 -- A manager still meets the journal behind each entry: over plain variables.
-use Rattle.std.proofs.Common.{◌≡◌, ◌≤◌, ◌+◌, ◌==◌, ◌&&◌, ◌||◌, ◌++◌, ℕ, Bool, true, false, List, ◌∷◌, Option, Some, None, unwrap_or, refl, sym, ap, ◌∙◌, arith, if◌then◌else◌}
+use Rattle.std.proofs.Common.{◌≡◌, ◌≤◌, ◌+◌, ◌==◌, ◌&&◌, ◌||◌, ◌++◌, ℕ, Bool, true, false, List, [], ◌∷◌, length, Option, Some, None, IfSome, IsSome, is_some, unwrap_or, refl, sym, ap, ◌∙◌, arith, if◌then◌else◌}
 use Rattle.std.specs.Option.{option_to_list}
 use Rattle.std.proofs.lemmas.Bool.Decides.{nat_tests}
+use Rattle.std.proofs.lemmas.List.{length-map}
 use Rattle.sx_values.specs.declared.value.Value.{Value}
 use Rattle.sx_values.specs.Names.{same_name}
 use Rattle.sx_values.specs.Values.{values_eq}
 use Rattle.sx_values.proofs.KeyLaws.{same_name_tells}
 use Rattle.sx_heap.proofs.RowLemmas.{same_key_tells}
 use Rattle.sx_log.specs.declared.record.Body.{Body}
-use Rattle.sx_log.specs.declared.record.Body.TheVariants.{Write, Commit, Abort}
+use Rattle.sx_log.specs.declared.record.Rec.{Rec}
+use Rattle.sx_log.specs.declared.record.Body.TheVariants.{Write, Undo, Commit, Abort}
 use Rattle.sx_log.specs.State.{row_left, is_place}
-use Rattle.sx_log.specs.Undoing.{undo_record}
+use Rattle.sx_log.specs.Undoing.{Rows, writes_left, undo_of, undo_at, undo_last, undo_record}
 use Rattle.sx_locks.specs.declared.mode.Mode.{Mode}
 use Rattle.sx_locks.specs.declared.mode.Mode.TheVariants.{Shared, Exclusive}
 use Rattle.sx_locks.specs.Modes.{stronger}
 use Rattle.sx_locks.specs.Locks.{mode_held, SameLocks, LockedSo}
-use Rattle.sx_txn.specs.Managed.{Managed, Unchanged, is_live, is_ending as ends_in, with_ending}
-use Rattle.sx_txn.specs.Turns.{Begins as ManagerBegins, Reads as ManagerReads, Writes as ManagerWrites, Ends, Undoes as ManagerUndoes, Notes}
+use Rattle.sx_txn.specs.Managed.{Managed, Shape, OwnMeets, Unchanged, is_live, is_ending as ends_in, with_ending, schema_in, shape_of, row_now}
+use Rattle.sx_txn.specs.Turns.{Begins as ManagerBegins, Reads as ManagerReads, Writes as ManagerWrites, Ends, Undoes as ManagerUndoes, Notes, CanUndo, CanUndoLast}
+use Rattle.sx_txn.specs.Writes.{first_of}
+use Rattle.sx_txn.proofs.OwnLemmas.{own_row}
 use Rattle.sx_journal.specs.declared.entry.Entry.{Entry}
 use Rattle.sx_model.specs.Effects.{Effect, Nothing, Reads, Begins, Writes, Undoes, Commits, Aborts, Starts, Sees, Conflicts, Switches, effect}
 use Rattle.sx_model.specs.Openings.{Opening}
@@ -74,11 +78,37 @@ locks_same : (o : Opening) (past : List Entry) (m n : Managed) (e : Entry) (f : 
 locks_same o past m n e f meets same told stays t table key =
     same t table key ∙ meets.locks t table key ∙ sym (lock-same o.catalog past e f t table key told (stays t table key))
 
+-- ** what the declared tables have **
+
+-- what a declared table has at a key is what the log leaves there
+pub row-own : (o : Opening) (past : List Entry) (m : Managed) (name : List ℕ) (key : List Value) → ManagerMeets o past m → OwnMeets m → IsSome (schema_in m.shapes name) → row_now m.tables name key ≡ row_left m.log name key
+row-own o past m name key meets own there =
+    own_row m name key own (let all = meets.own in let shown = ap length own.shapes in let same = length-map m.tables shape_of in omega arith) there
+
+-- an undo looks only at a table that is there
+undo_same : (there left : Rows) (log : List Rec) (shapes : List Shape) (txn : ℕ) (writes : List ℕ) → IfSome (first_of writes) (CanUndo log shapes txn)
+    → ((name : List ℕ) (key : List Value) → IsSome (schema_in shapes name) → there name key ≡ left name key) → undo_last there log txn writes ≡ undo_last left log txn writes
+unfolding undo_of
+undo_same there left log shapes txn [] can same = refl
+undo_same there left log shapes txn (lsn ∷ writes) can same =
+    ap (undo_at there txn lsn) can.is
+    ∙ ap (λ row. Some (record { txn = txn; body = Undo lsn can.table can.key row can.before })) (same can.table can.key (ap is_some can.there))
+    ∙ sym (ap (undo_at left txn lsn) can.is)
+
+-- so it makes the record that the journal says
+pub undo-made : (o : Opening) (past : List Entry) (m : Managed) (txn : ℕ) (back : Rec) → ManagerMeets o past m → OwnMeets m → CanUndoLast m txn → undo_record (row_now m.tables) m.log txn ≡ Some back
+    → undo_record (row_left (log_of o past)) (log_of o past) txn ≡ Some back
+undo-made o past m txn back meets own can made =
+    ap (λ l. undo_record (row_left l) l txn) (sym meets.log_is)
+    ∙ sym (undo_same (row_now m.tables) (row_left m.log) m.log m.shapes txn (writes_left txn m.log) can (λ name key there. row-own o past m name key meets own there))
+    ∙ made
+
 -- ** an entry that leaves the manager **
 
 pub meets-quiet : (o : Opening) (past : List Entry) (m n : Managed) (e : Entry) → ManagerMeets o past m → Unchanged m n → effect e.reply ≡ Nothing → ManagerMeets o (e ∷ past) n
 meets-quiet o past m n e meets same told = record {
   shapes = same.alive.shapes ∙ meets.shapes;
+  own = same.alive.own ∙ meets.own ∙ ap length (sym same.alive.shapes);
   log_is = same.log ∙ meets.log_is ∙ sym (log_by o past e Nothing told);
   begun = same.alive.begun ∙ meets.begun ∙ sym (begun_by past e Nothing told);
   living = living_same o past m n e Nothing meets same.alive.living told refl;
@@ -89,6 +119,7 @@ meets-quiet o past m n e meets same told = record {
 pub meets-saw : (o : Opening) (past : List Entry) (m n : Managed) (e : Entry) (lsns : List ℕ) (last : Bool) → ManagerMeets o past m → Unchanged m n → effect e.reply ≡ Sees lsns last → ManagerMeets o (e ∷ past) n
 meets-saw o past m n e lsns last meets same told = record {
   shapes = same.alive.shapes ∙ meets.shapes;
+  own = same.alive.own ∙ meets.own ∙ ap length (sym same.alive.shapes);
   log_is = same.log ∙ meets.log_is ∙ sym (log_by o past e (Sees lsns last) told);
   begun = same.alive.begun ∙ meets.begun ∙ sym (begun_by past e (Sees lsns last) told);
   living = living_same o past m n e (Sees lsns last) meets same.alive.living told refl;
@@ -99,6 +130,7 @@ meets-saw o past m n e lsns last meets same told = record {
 pub meets-conflict : (o : Opening) (past : List Entry) (m n : Managed) (e : Entry) → ManagerMeets o past m → Unchanged m n → effect e.reply ≡ Conflicts → ManagerMeets o (e ∷ past) n
 meets-conflict o past m n e meets same told = record {
   shapes = same.alive.shapes ∙ meets.shapes;
+  own = same.alive.own ∙ meets.own ∙ ap length (sym same.alive.shapes);
   log_is = same.log ∙ meets.log_is ∙ sym (log_by o past e Conflicts told);
   begun = same.alive.begun ∙ meets.begun ∙ sym (begun_by past e Conflicts told);
   living = living_same o past m n e Conflicts meets same.alive.living told refl;
@@ -112,6 +144,7 @@ pub meets-started : (o : Opening) (past : List Entry) (m n : Managed) (e : Entry
     → log_after o past e (Starts mark) ≡ record { txn = 0; body = body } ∷ log_of o past → ManagerMeets o (e ∷ past) n
 meets-started o past m n e body lsn mark meets notes told grown = record {
   shapes = notes.alive.shapes ∙ meets.shapes;
+  own = notes.alive.own ∙ meets.own ∙ ap length (sym notes.alive.shapes);
   log_is = notes.log ∙ ap (λ l. record { txn = 0; body = body } ∷ l) meets.log_is ∙ sym (log_by o past e (Starts mark) told ∙ grown);
   begun = notes.alive.begun ∙ meets.begun ∙ sym (begun_by past e (Starts mark) told);
   living = living_same o past m n e (Starts mark) meets notes.alive.living told refl;
@@ -123,6 +156,7 @@ pub meets-switched : (o : Opening) (past : List Entry) (m n : Managed) (e : Entr
     → log_after o past e Switches ≡ record { txn = 0; body = body } ∷ log_of o past → ManagerMeets o (e ∷ past) n
 meets-switched o past m n e body lsn meets notes told grown = record {
   shapes = notes.alive.shapes ∙ meets.shapes;
+  own = notes.alive.own ∙ meets.own ∙ ap length (sym notes.alive.shapes);
   log_is = notes.log ∙ ap (λ l. record { txn = 0; body = body } ∷ l) meets.log_is ∙ sym (log_by o past e Switches told ∙ grown);
   begun = notes.alive.begun ∙ meets.begun ∙ sym (begun_by past e Switches told);
   living = living_same o past m n e Switches meets notes.alive.living told refl;
@@ -148,6 +182,7 @@ pub meets-begun : (o : Opening) (past : List Entry) (m n : Managed) (e : Entry) 
     → ManagerMeets o (e ∷ past) n
 meets-begun o past m n e txn legal meets begins told outside = record {
   shapes = begins.shapes ∙ meets.shapes;
+  own = begins.own ∙ meets.own ∙ ap length (sym begins.shapes);
   log_is = begins.log ∙ meets.log_is ∙ sym (log_by o past e (Begins txn) told);
   begun = begins.begun ∙ begins.number ∙ ap (λ k. k + 1) meets.begun ∙ sym (begun_by past e (Begins txn) told);
   living = ap alive_numbers begins.living ∙ ap (λ l. txn ∷ l) meets.living ∙ sym (ap numbers (living_by past e (Begins txn) told));
@@ -239,6 +274,7 @@ pub meets-read : (o : Opening) (past : List Entry) (m n : Managed) (e : Entry) (
     → ManagerMeets o (e ∷ past) n
 meets-read o past m n e txn table key row meets reads told inside asks = record {
   shapes = reads.locks.alive.shapes ∙ meets.shapes;
+  own = reads.locks.alive.own ∙ meets.own ∙ ap length (sym reads.locks.alive.shapes);
   log_is = reads.log ∙ meets.log_is ∙ sym (log_by o past e Reads told);
   begun = reads.locks.alive.begun ∙ meets.begun ∙ sym (begun_by past e Reads told);
   living = living_same o past m n e Reads meets reads.locks.alive.living told refl;
@@ -256,12 +292,15 @@ log-write o past e txn table key image told inside made =
     ∙ ap (λ r. option_to_list r ++ log_of o past) made
 
 pub meets-written : (o : Opening) (past : List Entry) (m n : Managed) (e : Entry) (txn : ℕ) (table : List ℕ) (key : List Value) (image : Option (List Value)) (lsn : ℕ) → ManagerMeets o past m → ManagerWrites m n txn table key image lsn
-    → effect e.reply ≡ Writes → txn_of past e.actor ≡ Some txn → ((other : List ℕ) (at : List Value) → is_for_key o.catalog e.event other at ≡ is_place table key other at)
+    → row_now m.tables table key ≡ row_left m.log table key → effect e.reply ≡ Writes → txn_of past e.actor ≡ Some txn → ((other : List ℕ) (at : List Value) → is_for_key o.catalog e.event other at ≡ is_place table key other at)
     → event_record o.catalog (log_of o past) txn e.event ≡ Some (record { txn = txn; body = Write table key (row_left (log_of o past) table key) image })
     → ManagerMeets o (e ∷ past) n
-meets-written o past m n e txn table key image lsn meets writes told inside asks made = record {
+meets-written o past m n e txn table key image lsn meets writes was told inside asks made = record {
   shapes = writes.locks.alive.shapes ∙ meets.shapes;
-  log_is = writes.log ∙ ap (λ l. record { txn = txn; body = Write table key (row_left l table key) image } ∷ l) meets.log_is ∙ sym (log-write o past e txn table key image told inside made);
+  own = writes.locks.alive.own ∙ meets.own ∙ ap length (sym writes.locks.alive.shapes);
+  log_is =
+      writes.log ∙ ap (λ row. record { txn = txn; body = Write table key row image } ∷ m.log) was
+      ∙ ap (λ l. record { txn = txn; body = Write table key (row_left l table key) image } ∷ l) meets.log_is ∙ sym (log-write o past e txn table key image told inside made);
   begun = writes.locks.alive.begun ∙ meets.begun ∙ sym (begun_by past e Writes told);
   living = living_same o past m n e Writes meets writes.locks.alive.living told refl;
   ending = ending_same o past m n e Writes meets writes.locks.alive.living told refl;
@@ -313,6 +352,7 @@ ended-locks o past m n e f txn lsn body meets ends is t table key =
 pub meets-ended : (o : Opening) (past : List Entry) (m n : Managed) (e : Entry) (f : Effect) (txn lsn : ℕ) (body : Body) → Legal o past → ManagerMeets o past m → Ends m n txn body lsn → IsEnding o past e f txn body → ManagerMeets o (e ∷ past) n
 meets-ended o past m n e f txn lsn body legal meets ends is = record {
   shapes = ends.shapes ∙ meets.shapes;
+  own = ends.own ∙ meets.own ∙ ap length (sym ends.shapes);
   log_is =
       ends.log ∙ ap (λ l. record { txn = txn; body = body } ∷ l) meets.log_is
       ∙ sym (log_by o past e f is.told
@@ -340,15 +380,16 @@ undone-ending o past m n e txn lsn meets undoes told inside t lives =
     shown : is_ending (e ∷ past) t ≡ (((t == txn) && true) || is_ending past t)
     shown = ends_by past e Undoes t told ∙ ap (λ here. (is_txn t here && true) || is_ending past t) inside
 
-pub meets-undone : (o : Opening) (past : List Entry) (m n : Managed) (e : Entry) (txn lsn : ℕ) → ManagerMeets o past m → ManagerUndoes m n txn lsn → effect e.reply ≡ Undoes → txn_of past e.actor ≡ Some txn → ManagerMeets o (e ∷ past) n
-meets-undone o past m n e txn lsn meets undoes told inside =
-    let made : undo_record (log_of o past) txn ≡ Some undoes.back = sym (ap (λ l. undo_record l txn) meets.log_is) ∙ undoes.made in
+pub meets-undone : (o : Opening) (past : List Entry) (m n : Managed) (e : Entry) (txn lsn : ℕ) → ManagerMeets o past m → OwnMeets m → CanUndoLast m txn → ManagerUndoes m n txn lsn → effect e.reply ≡ Undoes → txn_of past e.actor ≡ Some txn → ManagerMeets o (e ∷ past) n
+meets-undone o past m n e txn lsn meets own can undoes told inside =
+    let made = undo-made o past m txn undoes.back meets own can undoes.made in
     record {
       shapes = undoes.shapes ∙ meets.shapes;
+      own = undoes.own ∙ meets.own ∙ ap length (sym undoes.shapes);
       log_is =
           undoes.log ∙ ap (λ l. undoes.back ∷ l) meets.log_is
           ∙ sym (log_by o past e Undoes told
-          ∙ ap (λ t. option_to_list (undo_record (log_of o past) t) ++ log_of o past) (txn_here past e txn inside)
+          ∙ ap (λ t. option_to_list (undo_record (row_left (log_of o past)) (log_of o past) t) ++ log_of o past) (txn_here past e txn inside)
           ∙ ap (λ r. option_to_list r ++ log_of o past) made);
       begun = undoes.begun ∙ meets.begun ∙ sym (begun_by past e Undoes told);
       living = ap alive_numbers undoes.living ∙ numbers-with_ending txn m.living ∙ meets.living ∙ sym (ap numbers (living_by past e Undoes told));

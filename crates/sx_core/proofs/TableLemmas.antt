@@ -1,5 +1,5 @@
 -- What the tables have, by name and by row: what the log leaves there.
-use Rattle.std.proofs.Common.{◌≡◌, ◌∷◌, [], ℕ, List, Bool, true, false, cond, map, Option, Some, None, option_map, refl, sym, ◌∙◌, ap, subst}
+use Rattle.std.proofs.Common.{◌≡◌, ◌∷◌, [], ℕ, List, Bool, true, false, cond, map, Option, Some, None, option_map, if◌then◌else◌, refl, sym, ◌∙◌, ap, subst}
 use Rattle.std.specs.List.{AllByRecursion}
 use Rattle.std.specs.List.Sorted.{IsStrictlySortedBy}
 use Rattle.std.specs.Ordering.{is_eq, ordering_reverse}
@@ -159,7 +159,7 @@ pub has_source : (catalog : List Declared) (log : List Rec) (tables : List Named
     → AreTables log (shapes_of catalog) tables → IsShaped spec → spec_fault catalog spec ≡ None → HasSource catalog log tables spec
 has_source catalog log tables (Part table tests passing failing) meets shaped fits = by (declared_as catalog table) refl fits
   where
-    by : (answer : Option Declared) → declared_as catalog table ≡ answer → part_fault catalog (option_map (λ (t : Declared). t.schema) answer) table tests passing failing ≡ None → HasSource catalog log tables (Part table tests passing failing)
+    by : (answer : Option Declared) → declared_as catalog table ≡ answer → part_fault catalog (if elim answer [ None ↦ false | Some t ↦ t.source ] then option_map (λ (t : Declared). t.schema) answer else None) table tests passing failing ≡ None → HasSource catalog log tables (Part table tests passing failing)
     by None none fault = absurd (cc)
     by (Some d) is fault = record { name = table; one = refl; declared = d; is_declared = is; meets = meets_named catalog log tables table d meets is }
 has_source catalog log tables (Join left right on_left on_right into) meets shaped fits = absurd shaped

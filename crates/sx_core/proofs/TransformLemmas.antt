@@ -29,12 +29,14 @@ use Rattle.sx_journal.specs.declared.entry.Reply.{Reply}
 use Rattle.sx_journal.specs.declared.entry.Reply.TheVariants as reply
 use Rattle.sx_model.specs.Effects.{effect, Starts, Sees, Conflicts, Switches}
 use Rattle.sx_model.specs.Openings.{Opening}
-use Rattle.sx_model.specs.Leaves.{Living, living, Started, started, phase, is_blocking}
+use Rattle.sx_model.specs.Leaves.{Living, living, Started, started, phase}
+use Rattle.sx_sync.specs.Ready.{is_blocking}
 use Rattle.sx_model.specs.Logs.{log_of, next_lsn}
-use Rattle.sx_model.specs.Held.{least}
+use Rattle.sx_sync.specs.Ready.{least}
 use Rattle.sx_model.specs.Replies.{start_reply}
 use Rattle.sx_model.specs.Scans.{IsScanTurn, IsNextSide, next_side_after}
-use Rattle.sx_model.specs.Switches.{switch_reply, unless_hindered, unless_violated, conflict, has_lock_on, is_split, wrote_on, position}
+use Rattle.sx_model.specs.Switches.{switch_reply, unless_hindered, unless_violated, conflict, has_lock_on, wrote_on, position}
+use Rattle.sx_ops.specs.Operators.{is_split}
 use Rattle.sx_model.specs.Tables.{AreRows}
 use Rattle.sx_model.specs.Legal.{IsLegalEntry, Allows, ScanAnswer, HasRoom}
 use Rattle.sx_model.proofs.EntryLaws.{living_by, log-switched}
@@ -123,6 +125,7 @@ started_took catalog loads past journal f m between managed spare spec lsn holds
     let counts : lsn ≡ length managed.log = (let p = notes.place in let q = ap length notes.log in omega arith) in
     let kept : IsKept (opened catalog loads f.managed.log) (own_entry (Start spec Blocking) (reply.Started lsn) ∷ past) (record { managed = managed; spare = spare; clients = f.clients; new_tables = f.new_tables; now = Scanning; spec = Some spec; cursor = None }) = record {
       legal = (holds.kept.legal, legal-start (opened catalog loads f.managed.log) past spec (reply.Started lsn) (place_here catalog loads past f m (reply.Started lsn) holds place) shaped answered);
+      loads_fit = holds.kept.loads_fit;
       manager_meets = meets-started (opened catalog loads f.managed.log) past between managed (own_entry (Start spec Blocking) (reply.Started lsn)) Mark lsn lsn meets notes told refl;
       clients_are = holds.kept.clients_are ∙ sym (living_by past (own_entry (Start spec Blocking) (reply.Started lsn)) (Starts lsn) told);
       room = room;
@@ -248,6 +251,7 @@ scan_took catalog loads past journal f m n spare after source walked lsns holds 
     let told = effect-scanned (reply.Scanned 0 (lsns_of walked.seen) walked.over) 0 (lsns_of walked.seen) walked.over refl in
     let kept : IsKept (opened catalog loads f.managed.log) (own_entry (Scan n) (reply.Scanned 0 (lsns_of walked.seen) walked.over) ∷ past) (scanned_fields f spare (if walked.over then Chasing else Scanning) walked.next) = record {
       legal = (holds.kept.legal, legal-scan (opened catalog loads f.managed.log) past n 0 (lsns_of walked.seen) walked.over (place_here catalog loads past f m (reply.Scanned 0 (lsns_of walked.seen) walked.over) holds place) some most turn);
+      loads_fit = holds.kept.loads_fit;
       manager_meets = meets-saw (opened catalog loads f.managed.log) past f.managed f.managed (own_entry (Scan n) (reply.Scanned 0 (lsns_of walked.seen) walked.over)) (lsns_of walked.seen) walked.over holds.kept.manager_meets (unchanged f.managed) told;
       clients_are = holds.kept.clients_are ∙ sym (living_by past (own_entry (Scan n) (reply.Scanned 0 (lsns_of walked.seen) walked.over)) (Sees (lsns_of walked.seen) walked.over) told);
       room = room;
@@ -308,6 +312,7 @@ drained_took catalog loads past journal f m spare txn holds at place hinders roo
     let told = effect-conflict txn in
     let kept : IsKept (opened catalog loads f.managed.log) (own_entry Switch (reply.Conflict txn) ∷ past) (drained_fields f spare) = record {
       legal = (holds.kept.legal, legal-switch (opened catalog loads f.managed.log) past (reply.Conflict txn) (place_here catalog loads past f m (reply.Conflict txn) holds place) (sym answered));
+      loads_fit = holds.kept.loads_fit;
       manager_meets = meets-conflict (opened catalog loads f.managed.log) past f.managed f.managed (own_entry Switch (reply.Conflict txn)) holds.kept.manager_meets (unchanged f.managed) told;
       clients_are = holds.kept.clients_are ∙ sym (living_by past (own_entry Switch (reply.Conflict txn)) Conflicts told);
       room = room;
@@ -377,6 +382,7 @@ switched_took catalog loads past journal f m between managed spare lsn fresh hol
     let grown : managed.log ≡ record { txn = 0; body = Switching } ∷ f.managed.log = notes.log ∙ ap (λ l. record { txn = 0; body = Switching } ∷ l) stays.log in
     let kept : IsKept (opened catalog loads f.managed.log) (own_entry Switch (reply.Switched lsn) ∷ past) (switched_fields f managed spare fresh) = record {
       legal = (holds.kept.legal, legal-switch (opened catalog loads f.managed.log) past (reply.Switched lsn) (place_here catalog loads past f m (reply.Switched lsn) holds place) (sym answered));
+      loads_fit = holds.kept.loads_fit;
       manager_meets = meets-switched (opened catalog loads f.managed.log) past between managed (own_entry Switch (reply.Switched lsn)) Switching lsn meets notes told refl;
       clients_are = holds.kept.clients_are ∙ sym (living_by past (own_entry Switch (reply.Switched lsn)) Switches told);
       room = room;

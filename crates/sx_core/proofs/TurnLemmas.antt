@@ -8,6 +8,7 @@ use Rattle.sx_log.specs.declared.record.Rec.{Rec}
 use Rattle.sx_log.specs.State.{oldest}
 use Rattle.sx_heap.specs.declared.tables.NamedTable.{NamedTable}
 use Rattle.sx_txn.specs.Managed.{Managed, Unchanged, is_live, is_ending as ends_in}
+use Rattle.sx_txn.proofs.EventLemmas.{tables_stay}
 use Rattle.sx_sync.specs.declared.Phase.{Phase}
 use Rattle.sx_sync.specs.declared.Phase.TheVariants.{Idle}
 use Rattle.sx_journal.specs.declared.entry.Entry.{Entry}
@@ -44,7 +45,7 @@ abbrev pub fields : Managed → ℕ → List Living → List NamedTable → Phas
 fields managed spare clients new_tables now spec cursor = record { managed = managed; spare = spare; clients = clients; new_tables = new_tables; now = now; spec = spec; cursor = cursor }
 
 pub unchanged : (m : Managed) → Unchanged m m
-unchanged m = record { alive = record { shapes = refl; living = refl; begun = refl }; log = refl; locks = λ t table key. refl }
+unchanged m = record { alive = record { shapes = refl; own = refl; living = refl; begun = refl }; rows = tables_stay m.tables; log = refl; locks = λ t table key. refl }
 
 -- the opening that the fields stand for
 abbrev pub opened : List Declared → ℕ → List Rec → Opening
@@ -123,6 +124,7 @@ switch_right old new answer turn = turn.allowed.answered
 pub unchanged_meets : (o : Opening) (past : List Entry) (m n : Managed) → ManagerMeets o past m → Unchanged m n → ManagerMeets o past n
 unchanged_meets o past m n meets same = record {
   shapes = same.alive.shapes ∙ meets.shapes;
+  own = same.alive.own ∙ meets.own ∙ ap length (sym same.alive.shapes);
   log_is = same.log ∙ meets.log_is;
   begun = same.alive.begun ∙ meets.begun;
   living = ap alive_numbers same.alive.living ∙ meets.living;
@@ -149,6 +151,7 @@ stays catalog loads past f g m holds leaves transform =
     let opening = opened-longer catalog loads f.managed.log g.managed.log holds.within (no_longer leaves.managed.log) in
     let kept : IsKept (opened catalog loads f.managed.log) past g = record {
       legal = holds.kept.legal;
+      loads_fit = holds.kept.loads_fit;
       manager_meets = unchanged_meets (opened catalog loads f.managed.log) past f.managed g.managed holds.kept.manager_meets leaves.managed;
       clients_are = leaves.clients ∙ holds.kept.clients_are;
       room = (let few = holds.kept.room in let more = leaves.room in let counted = ap length leaves.clients in omega arith);

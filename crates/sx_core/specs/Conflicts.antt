@@ -3,7 +3,7 @@ use Rattle.std.specs.Prelude.{ℕ, List, map, filter, Option, Some, None}
 use Rattle.sx_journal.specs.declared.entry.Entry.{Entry}
 use Rattle.sx_model.specs.Openings.{Opening}
 use Rattle.sx_model.specs.Leaves.{Living, Started, started}
-use Rattle.sx_model.specs.Held.{least}
+use Rattle.sx_sync.specs.Ready.{least}
 use Rattle.sx_model.specs.Switches.{has_lock_on, conflict}
 
 -- the least of these transactions that has a lock on one of these tables

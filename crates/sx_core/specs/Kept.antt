@@ -1,7 +1,10 @@
 -- What the machine's fields keep of its journal.
 use Rattle.std.specs.Prelude.{◌≡◌, ◌≤◌, true, ℕ, List, [], ◌∷◌, length, map, take, drop, Option, Some, None}
 use Rattle.sx_values.specs.declared.value.Value.{Value}
+use Rattle.std.specs.List.{AllByRecursion}
 use Rattle.sx_values.specs.declared.catalog.Declared.{Declared}
+use Rattle.sx_values.specs.Catalogs.{schema_of}
+use Rattle.sx_log.specs.Images.{FitsTables}
 use Rattle.sx_log.specs.declared.record.Rec.{Rec}
 use Rattle.sx_locks.specs.Locks.{mode_held}
 use Rattle.sx_txn.specs.Managed.{Managed, Shape, Alive, is_live, is_ending as ends_in}
@@ -35,6 +38,7 @@ shapes_of catalog = map (λ (d : Declared). record { name = d.name; schema = d.s
 -- the manager has the journal's log, transactions and locks
 pub record ManagerMeets (o : Opening) (past : List Entry) (m : Managed) : Type 0 where
   pub shapes : m.shapes ≡ shapes_of o.catalog
+  pub own : m.own ≡ length m.shapes
   pub log_is : m.log ≡ log_of o past
   pub begun : m.begun ≡ begun past
   pub living : map (λ (a : Alive). a.txn) m.living ≡ map (λ (l : Living). l.txn) (living past)
@@ -107,6 +111,7 @@ TransformMeets o past log tables Done spec cursor new_tables = IsSwitchedTo o pa
 
 -- the fields meet the journal, and the journal has room for the end of each live transaction
 pub record IsKept (o : Opening) (past : List Entry) (f : Fields) : Type 0 where
+  pub loads_fit : AllByRecursion (λ (r : Rec). FitsTables (schema_of o.catalog) r.body) o.loads
   pub legal : Legal o past
   pub manager_meets : ManagerMeets o past f.managed
   pub clients_are : f.clients ≡ living past

@@ -10,7 +10,7 @@ ghost use Rattle.sx_ops.specs.Operators.{targets_of, operator};
 ghost use Rattle.sx_ops.specs.Targets.{targets};
 ghost use Rattle.sx_model.specs.Effects.{effect};
 ghost use Rattle.sx_model.specs.Switches.{begins, takes_lock, request_names, event_names, has_lock_on};
-ghost use Rattle.sx_model.specs.Held.{lesser};
+ghost use Rattle.sx_sync.specs.Ready.{lesser};
 ghost use Rattle.sx_core.specs.Clients.{living_of};
 ghost use Rattle.sx_core.specs.Conflicts.{least_locking};
 ghost use Rattle.sx_core.specs.FreshTables.{fresh_table, fresh_tables};

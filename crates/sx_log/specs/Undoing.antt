@@ -4,7 +4,7 @@ use Rattle.sx_lists.specs.Places.{numbered}
 use Rattle.sx_log.specs.declared.record.Rec.{Rec}
 use Rattle.sx_log.specs.declared.record.Body.{Body}
 use Rattle.sx_log.specs.declared.record.Body.TheVariants.{Write, Undo, Commit, Abort, Mark, Check, Switch}
-use Rattle.sx_log.specs.State.{row_left}
+use Rattle.sx_values.specs.declared.value.Value.{Value}
 
 -- LSNs without this one
 abbrev pub without_lsn : ℕ → List ℕ → List ℕ
@@ -25,21 +25,25 @@ abbrev pub writes_left : ℕ → List Rec → List ℕ
 writes_left txn [] = []
 writes_left txn (r ∷ past) = if r.txn == txn then left_after (length past + 1) r.body (writes_left txn past) else writes_left txn past
 
--- the record that undoes a write of this LSN and body behind a log: the image before is the row that the key has now, the image after is what the write found
-unfoldable pub undo_of : List Rec → ℕ → ℕ → Body → Option Rec
-undo_of log txn lsn (Write table key before after) = Some (record { txn = txn; body = Undo lsn table key (row_left log table key) before })
-undo_of log txn lsn other = None
+-- what each key of each table has now
+abbrev pub Rows : Type 0
+Rows = List ℕ → List Value → Option (List Value)
+
+-- the record that undoes a write of this LSN and body: the image before is the row that the key has now, the image after is what the write found
+unfoldable pub undo_of : Rows → ℕ → ℕ → Body → Option Rec
+undo_of there txn lsn (Write table key before after) = Some (record { txn = txn; body = Undo lsn table key (there table key) before })
+undo_of there txn lsn other = None
 
 -- the record that undoes the write with this LSN
-abbrev pub undo_at : List Rec → ℕ → ℕ → Option Rec → Option Rec
-undo_at log txn lsn None = None
-undo_at log txn lsn (Some r) = undo_of log txn lsn r.body
+abbrev pub undo_at : Rows → ℕ → ℕ → Option Rec → Option Rec
+undo_at there txn lsn None = None
+undo_at there txn lsn (Some r) = undo_of there txn lsn r.body
 
 -- the record that undoes the last of the writes that are left, if one is left
-abbrev pub undo_last : List Rec → ℕ → List ℕ → Option Rec
-undo_last log txn [] = None
-undo_last log txn (lsn ∷ left) = undo_at log txn lsn (numbered log lsn)
+abbrev pub undo_last : Rows → List Rec → ℕ → List ℕ → Option Rec
+undo_last there log txn [] = None
+undo_last there log txn (lsn ∷ left) = undo_at there txn lsn (numbered log lsn)
 
 -- the record that a transaction's undo makes, or None where nothing is left to undo
-abbrev pub undo_record : List Rec → ℕ → Option Rec
-undo_record log txn = undo_last log txn (writes_left txn log)
+abbrev pub undo_record : Rows → List Rec → ℕ → Option Rec
+undo_record there log txn = undo_last there log txn (writes_left txn log)

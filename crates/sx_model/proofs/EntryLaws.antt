@@ -4,6 +4,7 @@ use Rattle.std.specs.Option.{option_to_list}
 use Rattle.sx_lists.specs.Places.{numbered}
 use Rattle.sx_log.specs.declared.record.Rec.{Rec}
 use Rattle.sx_log.specs.declared.record.Body.TheVariants.{Commit, Abort, Mark, Switch}
+use Rattle.sx_log.specs.State.{row_left}
 use Rattle.sx_log.specs.Undoing.{undo_at, undo_last, undo_record}
 use Rattle.sx_journal.specs.declared.entry.Entry.{Entry}
 use Rattle.sx_model.specs.Effects.{Effect, Nothing, Reads, Begins, Writes, Undoes, Commits, Aborts, Starts, Sees, Conflicts, Switches, effect}
@@ -51,11 +52,11 @@ log-committed o past e c =
     log_by o past e Commits c.told
     ∙ ap (λ t. record { txn = t; body = Commit } ∷ log_of o past) (txn_here past e c.txn c.inside)
 
-pub log-undone : (o : Opening) (past : List Entry) (e : Entry) (u : Undone o past e) → log_of o (e ∷ past) ≡ option_to_list (undo_at (log_of o past) u.txn u.lsn (numbered (log_of o past) u.lsn)) ++ log_of o past
+pub log-undone : (o : Opening) (past : List Entry) (e : Entry) (u : Undone o past e) → log_of o (e ∷ past) ≡ option_to_list (undo_at (row_left (log_of o past)) u.txn u.lsn (numbered (log_of o past) u.lsn)) ++ log_of o past
 log-undone o past e u =
     log_by o past e Undoes u.told
-    ∙ (ap (λ t. option_to_list (undo_record (log_of o past) t) ++ log_of o past) (txn_here past e u.txn u.inside)
-    ∙ ap (λ left. option_to_list (undo_last (log_of o past) u.txn left) ++ log_of o past) u.left)
+    ∙ (ap (λ t. option_to_list (undo_record (row_left (log_of o past)) (log_of o past) t) ++ log_of o past) (txn_here past e u.txn u.inside)
+    ∙ ap (λ left. option_to_list (undo_last (row_left (log_of o past)) (log_of o past) u.txn left) ++ log_of o past) u.left)
 
 pub log-aborted : (o : Opening) (past : List Entry) (e : Entry) (a : Aborted o past e) → log_of o (e ∷ past) ≡ record { txn = a.txn; body = Abort } ∷ log_of o past
 log-aborted o past e a =

@@ -44,7 +44,7 @@ abbrev layout : Layout
 layout = record { columns = record { name = codes "id"; kind = kind.Text; nullable = false } ∷ record { name = codes "v"; kind = kind.Text; nullable = true } ∷ []; key = 0 ∷ [] }
 
 abbrev catalog : List Declared
-catalog = record { name = t; schema = layout; indexes = [] } ∷ []
+catalog = record { name = t; schema = layout; indexes = []; source = true } ∷ []
 
 abbrev row : Value → Value → List Value
 row x y = x ∷ y ∷ []

@@ -18,7 +18,7 @@ use Rattle.sx_journal.specs.declared.entry.Reply.TheVariants as reply
 use Rattle.sx_model.specs.Effects.{Effect, Nothing, Starts, Sees, Conflicts, Switches, effect}
 use Rattle.sx_model.specs.Openings.{Opening}
 use Rattle.sx_model.specs.Leaves.{Living, living, living_after, Started, started, phase, phase_after}
-use Rattle.sx_model.specs.Held.{least}
+use Rattle.sx_sync.specs.Ready.{least}
 use Rattle.sx_model.specs.Logs.{log_of, next_lsn}
 use Rattle.sx_model.specs.Replies.{start_answer, start_in, start_reply}
 use Rattle.sx_model.specs.Switches.{position, conflicts as hinders, conflict, violation, unless_violated, unless_hindered, attempt_reply, switch_in, switch_reply}

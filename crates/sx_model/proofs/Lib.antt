@@ -4,6 +4,7 @@ pub mod EndingLaws
 pub mod EntryLaws
 pub mod Examples
 pub mod FinishLaws
+pub mod ImageLaws
 pub mod LeftLaws
 pub mod LegalLaws
 pub mod LivesLaws

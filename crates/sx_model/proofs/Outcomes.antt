@@ -1,9 +1,10 @@
 -- What a legal entry does, behind the entries before it.
-use Rattle.std.proofs.Common.{◌≡◌, ◌≤◌, ◌+◌, ◌-◌, ◌⊎◌, nat_lt, length, if◌then◌else◌, ℕ, Bool, true, false, List, [], ◌∷◌, Option, Some, None, refl, sym, ap, ◌∙◌, subst, inl, inr}
+use Rattle.std.proofs.Common.{◌≡◌, ◌≤◌, ◌+◌, ◌-◌, ◌⊎◌, nat_lt, length, if◌then◌else◌, ℕ, Bool, true, false, List, [], ◌∷◌, Option, Some, None, IsSomeAnd, refl, sym, ap, ◌∙◌, subst, inl, inr}
 use Rattle.sx_values.specs.declared.value.Value.{Value}
 use Rattle.sx_values.specs.declared.schema.BadRow.{BadRow}
 use Rattle.sx_values.specs.Layouts.{Layout, row_fault, key_fault, key_of}
 use Rattle.sx_values.specs.Catalogs.{schema_of}
+use Rattle.sx_log.specs.Images.{FitsImage}
 use Rattle.sx_log.specs.State.{is_place}
 use Rattle.sx_log.specs.Undoing.{writes_left}
 use Rattle.sx_locks.specs.declared.mode.Mode.TheVariants.{Shared, Exclusive}
@@ -76,6 +77,7 @@ pub record Written (o : Opening) (past : List Entry) (e : Entry) : Type 0 where
   pub asks : (other : List ℕ) (at : List Value) → is_for_key o.catalog e.event other at ≡ is_place table key other at
   pub free : holder o.catalog past txn table key Exclusive ≡ None
   pub change : Change (row_now o past table key) after
+  pub fits : IsSomeAnd (schema_of o.catalog table) (λ layout. FitsImage layout key after)
   pub made : event_record o.catalog (log_of o past) txn e.event ≡ Some (write_record (log_of o past) txn table key after)
 
 -- it commits
@@ -172,49 +174,49 @@ reads_row (Some row) = refl
 reads_row None = refl
 
 -- the answer to a write changes nothing, or says that a row was written
-data WriteOr (by : Option ℕ) (before after : Option (List Value)) (answer : Reply) : Type 0 where
-  refused : effect answer ≡ Nothing → WriteOr by before after answer
-  written : by ≡ None → Change before after → effect answer ≡ Writes → WriteOr by before after answer
+data WriteOr (by : Option ℕ) (before after : Option (List Value)) (Fits : Type 0) (answer : Reply) : Type 0 where
+  refused : effect answer ≡ Nothing → WriteOr by before after Fits answer
+  written : by ≡ None → Change before after → Fits → effect answer ≡ Writes → WriteOr by before after Fits answer
 
-insert_past : (o : Opening) (past : List Entry) (bad : Option BadRow) (by : Option ℕ) (before : Option (List Value)) (row : List Value) → WriteOr by before (Some row) (unless_bad bad (unless_held by (insert_answer o past before)))
+insert_past : (o : Opening) (past : List Entry) (bad : Option BadRow) (by : Option ℕ) (before : Option (List Value)) (row : List Value) (Fits : Type 0) → (bad ≡ None → Fits) → WriteOr by before (Some row) Fits (unless_bad bad (unless_held by (insert_answer o past before)))
 unfolding effect
-insert_past o past (Some bad) by before row = refused refl
-insert_past o past None (Some txn) before row = refused refl
-insert_past o past None None (Some old) row = refused refl
-insert_past o past None None None row = written refl (inserts row refl refl) refl
+insert_past o past (Some bad) by before row Fits fit = refused refl
+insert_past o past None (Some txn) before row Fits fit = refused refl
+insert_past o past None None (Some old) row Fits fit = refused refl
+insert_past o past None None None row Fits fit = written refl (inserts row refl refl) (fit refl) refl
 
-update_past : (o : Opening) (past : List Entry) (bad : Option BadRow) (by : Option ℕ) (before : Option (List Value)) (row : List Value) → WriteOr by before (Some row) (unless_bad bad (unless_held by (change_answer o past before)))
+update_past : (o : Opening) (past : List Entry) (bad : Option BadRow) (by : Option ℕ) (before : Option (List Value)) (row : List Value) (Fits : Type 0) → (bad ≡ None → Fits) → WriteOr by before (Some row) Fits (unless_bad bad (unless_held by (change_answer o past before)))
 unfolding effect
-update_past o past (Some bad) by before row = refused refl
-update_past o past None (Some txn) before row = refused refl
-update_past o past None None None row = refused refl
-update_past o past None None (Some old) row = written refl (updates old row refl refl) refl
+update_past o past (Some bad) by before row Fits fit = refused refl
+update_past o past None (Some txn) before row Fits fit = refused refl
+update_past o past None None None row Fits fit = refused refl
+update_past o past None None (Some old) row Fits fit = written refl (updates old row refl refl) (fit refl) refl
 
-delete_past : (o : Opening) (past : List Entry) (bad : Option BadRow) (by : Option ℕ) (before : Option (List Value)) → WriteOr by before None (unless_bad bad (unless_held by (change_answer o past before)))
+delete_past : (o : Opening) (past : List Entry) (bad : Option BadRow) (by : Option ℕ) (before : Option (List Value)) (Fits : Type 0) → Fits → WriteOr by before None Fits (unless_bad bad (unless_held by (change_answer o past before)))
 unfolding effect
-delete_past o past (Some bad) by before = refused refl
-delete_past o past None (Some txn) before = refused refl
-delete_past o past None None None = refused refl
-delete_past o past None None (Some old) = written refl (deletes old refl refl) refl
+delete_past o past (Some bad) by before Fits fit = refused refl
+delete_past o past None (Some txn) before Fits fit = refused refl
+delete_past o past None None None Fits fit = refused refl
+delete_past o past None None (Some old) Fits fit = written refl (deletes old refl refl) fit refl
 
 -- the same of an answer about a key
-abbrev WriteAt : Opening → List Entry → ℕ → List ℕ → List Value → Option (List Value) → Reply → Type 0
-WriteAt o past txn table key after answer = WriteOr (holder o.catalog past txn table key Exclusive) (row_now o past table key) after answer
+abbrev WriteAt : Opening → List Entry → ℕ → List ℕ → Option Layout → List Value → Option (List Value) → Reply → Type 0
+WriteAt o past txn table layout key after answer = WriteOr (holder o.catalog past txn table key Exclusive) (row_now o past table key) after (IsSomeAnd layout (λ (l : Layout). FitsImage l key after)) answer
 
-insert_or : (o : Opening) (past : List Entry) (txn : ℕ) (table : List ℕ) (layout : Option Layout) (row : List Value) → WriteAt o past txn table (key_under layout row) (Some row) (insert_reply o past txn table layout row)
+insert_or : (o : Opening) (past : List Entry) (txn : ℕ) (table : List ℕ) (layout : Option Layout) (row : List Value) → WriteAt o past txn table layout (key_under layout row) (Some row) (insert_reply o past txn table layout row)
 unfolding effect
 insert_or o past txn table None row = refused refl
-insert_or o past txn table (Some layout) row = insert_past o past (row_fault layout row) (holder o.catalog past txn table (key_of layout row) Exclusive) (row_now o past table (key_of layout row)) row
+insert_or o past txn table (Some layout) row = insert_past o past (row_fault layout row) (holder o.catalog past txn table (key_of layout row) Exclusive) (row_now o past table (key_of layout row)) row _ (λ good. (good, refl))
 
-update_or : (o : Opening) (past : List Entry) (txn : ℕ) (table : List ℕ) (layout : Option Layout) (row : List Value) → WriteAt o past txn table (key_under layout row) (Some row) (update_reply o past txn table layout row)
+update_or : (o : Opening) (past : List Entry) (txn : ℕ) (table : List ℕ) (layout : Option Layout) (row : List Value) → WriteAt o past txn table layout (key_under layout row) (Some row) (update_reply o past txn table layout row)
 unfolding effect
 update_or o past txn table None row = refused refl
-update_or o past txn table (Some layout) row = update_past o past (row_fault layout row) (holder o.catalog past txn table (key_of layout row) Exclusive) (row_now o past table (key_of layout row)) row
+update_or o past txn table (Some layout) row = update_past o past (row_fault layout row) (holder o.catalog past txn table (key_of layout row) Exclusive) (row_now o past table (key_of layout row)) row _ (λ good. (good, refl))
 
-delete_or : (o : Opening) (past : List Entry) (txn : ℕ) (table : List ℕ) (layout : Option Layout) (key : List Value) → WriteAt o past txn table key None (delete_reply o past txn table layout key)
+delete_or : (o : Opening) (past : List Entry) (txn : ℕ) (table : List ℕ) (layout : Option Layout) (key : List Value) → WriteAt o past txn table layout key None (delete_reply o past txn table layout key)
 unfolding effect
 delete_or o past txn table None key = refused refl
-delete_or o past txn table (Some layout) key = delete_past o past (key_fault layout key) (holder o.catalog past txn table key Exclusive) (row_now o past table key)
+delete_or o past txn table (Some layout) key = delete_past o past (key_fault layout key) (holder o.catalog past txn table key Exclusive) (row_now o past table key) _ tt
 
 -- the outcome of a read in a transaction
 read_outcome : (o : Opening) (past : List Entry) (actor : ℕ) (answer shown_reply : Reply) (txn : ℕ) (table : List ℕ) (key : List Value) → ByClient past actor → txn_of past actor ≡ Some txn → is_ending past txn ≡ false → answer ≡ shown_reply → ReadOr (holder o.catalog past txn table key Shared) (row_now o past table key) shown_reply → Outcome o past (asks actor (request.Read table key) answer)
@@ -238,9 +240,9 @@ record AsksWrite (o : Opening) (past : List Entry) (txn : ℕ) (asked : Request)
   makes : event_record o.catalog (log_of o past) txn (event.Client asked) ≡ Some (write_record (log_of o past) txn table key after)
 
 -- the outcome of a request that may write
-write_outcome : (o : Opening) (past : List Entry) (actor : ℕ) (asked : Request) (answer said : Reply) (txn : ℕ) (table : List ℕ) (key : List Value) (after : Option (List Value)) → ByClient past actor → txn_of past actor ≡ Some txn → is_ending past txn ≡ false → answer ≡ said → AsksWrite o past txn asked table key after → WriteAt o past txn table key after said → Outcome o past (asks actor asked answer)
+write_outcome : (o : Opening) (past : List Entry) (actor : ℕ) (asked : Request) (answer said : Reply) (txn : ℕ) (table : List ℕ) (key : List Value) (after : Option (List Value)) → ByClient past actor → txn_of past actor ≡ Some txn → is_ending past txn ≡ false → answer ≡ said → AsksWrite o past txn asked table key after → WriteAt o past txn table (schema_of o.catalog table) key after said → Outcome o past (asks actor asked answer)
 write_outcome o past actor asked answer said txn table key after client inside going e a (refused quiet) = rests (ap effect e ∙ quiet)
-write_outcome o past actor asked answer said txn table key after client inside going e a (written free change told) = writes (record {
+write_outcome o past actor asked answer said txn table key after client inside going e a (written free change fit told) = writes (record {
   client = client;
   txn = txn;
   inside = inside;
@@ -252,6 +254,7 @@ write_outcome o past actor asked answer said txn table key after client inside g
   asks = a.asks_key;
   free = free;
   change = change;
+  fits = fit;
   made = a.makes;
 })
 

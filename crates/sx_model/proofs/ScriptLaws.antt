@@ -25,7 +25,7 @@ use Rattle.sx_journal.specs.Courses.{is_held, is_doomed, is_aborted, ends_abort,
 use Rattle.sx_model.specs.Openings.{Opening}
 use Rattle.sx_model.specs.Leaves.{Living, living, txn_among, txn_of, begun, phase}
 use Rattle.sx_model.specs.Clients.{IsClient, IsLiving}
-use Rattle.sx_model.specs.Held.{lesser, least}
+use Rattle.sx_sync.specs.Ready.{lesser, least}
 use Rattle.sx_model.specs.Schedules.{Line, Plan, own, commands_of, standing_of, next_of_lines, or_undo, next_request, KeepsEvent, KeepsScript, IsSwitched, IsComplete, propagator_event, Turn, client_turn, propagator_turn, one_less, first_open, open_line, least_living, turn_at, next_turn, Stepped}
 use Rattle.sx_model.specs.Legal.{Legal}
 use Rattle.sx_model.proofs.AllLaws.{all_each, all_images}

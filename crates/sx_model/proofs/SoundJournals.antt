@@ -23,7 +23,8 @@ use Rattle.sx_model.specs.Openings.{Opening}
 use Rattle.sx_model.specs.LoadRecords.{IsLoaded, IsOpened}
 use Rattle.sx_model.specs.Leaves.{Living, living, living_after, without, txn_among, txn_of, begun, begun_after}
 use Rattle.sx_model.specs.Logs.{log_of, next_lsn, write_record}
-use Rattle.sx_model.specs.Held.{is_for_key, lock_after, is_txn, lock_of, undoes as undoes_one, is_ending, least, holder}
+use Rattle.sx_model.specs.Held.{is_for_key, lock_after, is_txn, lock_of, undoes as undoes_one, is_ending, holder}
+use Rattle.sx_sync.specs.Ready.{least}
 use Rattle.sx_model.specs.Undone.{is_undo, has_undone}
 use Rattle.sx_model.specs.Clients.{AreLiving}
 use Rattle.sx_model.specs.Legal.{Legal}
@@ -141,9 +142,9 @@ written o past e a w s =
     (free_of o.catalog past w.txn w.table w.key w.free) s)
 
 -- the record of an Undo of a write that is there
-undone_log : (log : List Rec) (txn lsn : ℕ) (w : IsWriteOf log txn lsn) → option_to_list (undo_at log txn lsn (numbered log lsn)) ++ log ≡ record { txn = txn; body = Undo lsn w.table w.key (row_left log w.table w.key) w.before } ∷ log
+undone_log : (log : List Rec) (txn lsn : ℕ) (w : IsWriteOf log txn lsn) → option_to_list (undo_at (row_left log) txn lsn (numbered log lsn)) ++ log ≡ record { txn = txn; body = Undo lsn w.table w.key (row_left log w.table w.key) w.before } ∷ log
 unfolding undo_of
-undone_log log txn lsn w = ap (λ r. option_to_list (undo_at log txn lsn r) ++ log) w.is
+undone_log log txn lsn w = ap (λ r. option_to_list (undo_at (row_left log) txn lsn r) ++ log) w.is
 
 -- two numbers may be compared in either order
 either_order : (a b : ℕ) → (a == b) ≡ (b == a)

@@ -22,7 +22,7 @@ use Rattle.sx_model.specs.Effects.{Effect, Nothing, Reads, Begins, Writes, Undoe
 use Rattle.sx_model.specs.Openings.{Opening}
 use Rattle.sx_model.specs.Leaves.{Living, living, living_after, without, txn_among, txn_of, begun, started, phase, phase_after}
 use Rattle.sx_model.specs.Clients.{IsLiving}
-use Rattle.sx_model.specs.Held.{lesser, least}
+use Rattle.sx_sync.specs.Ready.{lesser, least}
 use Rattle.sx_model.specs.Legal.{Allows, is_committed, HasRoom, Legal}
 use Rattle.sx_model.specs.Schedules.{Line, Plan, commands_of, standing_of, client_turn, one_less, first_open, open_line, least_living, turn_at, next_turn}
 use Rattle.sx_model.proofs.TestLaws.{by_cases}

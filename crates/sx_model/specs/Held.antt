@@ -1,11 +1,12 @@
 -- The locks that live transactions have, and who is ending. A journal is seen newest first.
-use Rattle.std.specs.Prelude.{◌==◌, ◌&&◌, ◌||◌, Bool, true, false, not, ℕ, List, [], ◌∷◌, map, filter, min, Option, Some, None, if◌then◌else◌}
+use Rattle.std.specs.Prelude.{◌==◌, ◌&&◌, ◌||◌, Bool, true, false, not, ℕ, List, [], ◌∷◌, map, filter, Option, Some, None, if◌then◌else◌}
 use Rattle.sx_values.specs.declared.value.Value.{Value}
 use Rattle.sx_values.specs.declared.catalog.Declared.{Declared}
 use Rattle.sx_log.specs.State.{is_place}
 use Rattle.sx_locks.specs.declared.mode.Mode.{Mode}
 use Rattle.sx_locks.specs.declared.mode.Mode.TheVariants.{Shared, Exclusive}
 use Rattle.sx_locks.specs.Modes.{stronger, is_against}
+use Rattle.sx_sync.specs.Ready.{least}
 use Rattle.sx_journal.specs.declared.entry.Entry.{Entry}
 use Rattle.sx_journal.specs.declared.entry.Event.{Event}
 use Rattle.sx_journal.specs.declared.entry.Event.TheVariants as event
@@ -57,16 +58,6 @@ undoes other = false
 abbrev pub is_ending : List Entry → ℕ → Bool
 is_ending [] txn = false
 is_ending (e ∷ past) txn = (is_txn txn (txn_of past e.actor) && undoes (effect e.reply)) || is_ending past txn
-
--- the lesser of a transaction and another, if there is another
-abbrev pub lesser : ℕ → Option ℕ → ℕ
-lesser txn None = txn
-lesser txn (Some other) = min txn other
-
--- the least of these numbers
-abbrev pub least : List ℕ → Option ℕ
-least [] = None
-least (txn ∷ txns) = Some (lesser txn (least txns))
 
 -- whether a live transaction is another than this one, with a lock on the key that conflicts with this mode
 abbrev pub holds_against : List Declared → List Entry → ℕ → List ℕ → List Value → Mode → Living → Bool

@@ -1,8 +1,8 @@
 -- What a journal leaves: who lives, and how far a transformation has come. A journal is seen newest first.
-use Rattle.std.specs.Prelude.{◌+◌, ◌==◌, not, Bool, true, false, ℕ, List, [], ◌∷◌, filter, Option, Some, None, if◌then◌else◌}
+use Rattle.std.specs.Prelude.{◌+◌, ◌==◌, not, Bool, false, ℕ, List, [], ◌∷◌, filter, Option, Some, None, if◌then◌else◌}
 use Rattle.sx_ops.specs.declared.spec.Spec.{Spec}
 use Rattle.sx_sync.specs.declared.Strategy.{Strategy}
-use Rattle.sx_sync.specs.declared.Strategy.TheVariants.{Blocking, NonBlockingAbort, NonBlockingCommit}
+use Rattle.sx_sync.specs.Ready.{is_blocking}
 use Rattle.sx_sync.specs.declared.Phase.{Phase}
 use Rattle.sx_sync.specs.declared.Phase.TheVariants.{Idle, Scanning, Chasing, Draining, Done}
 use Rattle.sx_journal.specs.declared.entry.Entry.{Entry}
@@ -70,12 +70,6 @@ started_by asked other earlier = earlier
 abbrev pub started : List Entry → Option Started
 started [] = None
 started (e ∷ past) = started_by e.event (effect e.reply) (started past)
-
--- whether old transactions keep the switch waiting
-abbrev pub is_blocking : Strategy → Bool
-is_blocking Blocking = true
-is_blocking NonBlockingAbort = false
-is_blocking NonBlockingCommit = false
 
 -- whether a conflict at the switch drains old transactions
 abbrev pub drains : Option Started → Bool

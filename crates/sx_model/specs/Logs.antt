@@ -35,7 +35,7 @@ event_record catalog log txn other = None
 -- the record that an event with this effect makes behind a log, for a transaction; Check records come with their request
 abbrev pub effect_record : List Declared → List Rec → ℕ → Event → Effect → Option Rec
 effect_record catalog log txn asked Writes = event_record catalog log txn asked
-effect_record catalog log txn asked Undoes = undo_record log txn
+effect_record catalog log txn asked Undoes = undo_record (row_left log) log txn
 effect_record catalog log txn asked Commits = Some (record { txn = txn; body = body.Commit })
 effect_record catalog log txn asked Aborts = Some (record { txn = txn; body = body.Abort })
 effect_record catalog log txn asked (Starts mark) = Some (record { txn = 0; body = body.Mark })

@@ -16,7 +16,7 @@ use Rattle.sx_journal.specs.declared.course.Standing.{Standing}
 use Rattle.sx_journal.specs.Courses.{standing_by, next_at, index_of}
 use Rattle.sx_model.specs.Openings.{Opening, opening}
 use Rattle.sx_model.specs.Leaves.{Living, living, txn_of, phase}
-use Rattle.sx_model.specs.Held.{least}
+use Rattle.sx_sync.specs.Ready.{least}
 use Rattle.sx_model.specs.Replies.{client_reply}
 use Rattle.sx_model.specs.Legal.{is_committed}
 

@@ -10,7 +10,7 @@ use Rattle.sx_log.specs.declared.record.Body.TheVariants as body
 use Rattle.sx_log.specs.Rows.{Keyed, rows_left}
 use Rattle.sx_ops.specs.declared.spec.Spec.{Spec}
 use Rattle.sx_ops.specs.declared.spec.Spec.TheVariants.{Join, Split, Part, Union}
-use Rattle.sx_ops.specs.Operators.{sources_of}
+use Rattle.sx_ops.specs.Operators.{sources_of, is_split}
 use Rattle.sx_ops.specs.Disagreements.{first_disagreement}
 use Rattle.sx_sync.specs.declared.Phase.{Phase}
 use Rattle.sx_sync.specs.declared.Phase.TheVariants.{Idle, Scanning, Chasing, Draining, Late, Done}
@@ -23,9 +23,10 @@ use Rattle.sx_journal.specs.declared.entry.Reply.{Reply}
 use Rattle.sx_journal.specs.declared.entry.Reply.TheVariants as reply
 use Rattle.sx_model.specs.Effects.{Effect, Reads, Begins, Writes, Starts, Fetches, Violates, effect}
 use Rattle.sx_model.specs.Openings.{Opening}
-use Rattle.sx_model.specs.Leaves.{Living, living, Started, started, is_blocking, phase}
+use Rattle.sx_model.specs.Leaves.{Living, living, Started, started, phase}
+use Rattle.sx_sync.specs.Ready.{is_blocking}
 use Rattle.sx_model.specs.Logs.{log_of, next_lsn}
-use Rattle.sx_model.specs.Held.{least}
+use Rattle.sx_sync.specs.Ready.{least}
 
 -- the position after an answer: a start sets it to its Mark, a fetch to the end of what it fetched, an attempt that finds a disagreement to the end of the log
 abbrev pub position_after : ℕ → Effect → ℕ → ℕ
@@ -81,13 +82,6 @@ is_on tables other = false
 abbrev pub wrote_on : List (List ℕ) → ℕ → List Rec → Bool
 wrote_on tables txn [] = false
 wrote_on tables txn (r ∷ past) = ((r.txn == txn) && is_on tables r.body) || wrote_on tables txn past
-
--- whether a transformation is a vertical split
-abbrev pub is_split : Spec → Bool
-is_split (Split table by dep rest dependent) = true
-is_split (Join left right on_left on_right into) = false
-is_split (Part table tests passing failing) = false
-is_split (Union left right into) = false
 
 -- whether a live transaction hinders the switch: under blocking commit by a lock on a source, else by a record on the source of a vertical split
 abbrev pub conflicts : Opening → List Entry → Started → Living → Bool

@@ -10,6 +10,8 @@ ghost use Rattle.sx_log.specs.declared.record.Rec.{Rec};
 ghost use Rattle.sx_log.specs.declared.record.Load.{Load};
 ghost use Rattle.sx_log.specs.State.{state_at, row_left};
 ghost use Rattle.sx_log.specs.Copies.{redone};
+ghost use Rattle.sx_log.specs.Images.{FitsTables};
+ghost use Rattle.sx_values.specs.Catalogs.{schema_of};
 ghost use Rattle.sx_log.specs.Committed.{commits, committed};
 ghost use Rattle.sx_sync.specs.declared.Phase.TheVariants.{Idle, Chasing, Draining};
 ghost use Rattle.sx_journal.specs.declared.entry.Entry.{Entry};
@@ -129,4 +131,9 @@ pub fn a_journal_is_bounded()
 /// A switch is done where the scan has ended and nobody lives.
 pub fn a_switch_at_rest_is_done()
     ensures { (o : Opening) (past : List Entry) → Legal o past → living past ≡ [] → phase past ≡ Chasing → switch_reply o past ≡ reply.Switched (next_lsn o past) }
+{}
+
+/// Where the loaded rows are admitted, each image of a record of a legal journal's log is a row that its table admits, of the record's key.
+pub fn images_fit()
+    ensures { (o : Opening) (past : List Entry) → AllByRecursion (λ r. FitsTables (schema_of o.catalog) r.body) o.loads → Legal o past → AllByRecursion (λ r. FitsTables (schema_of o.catalog) r.body) (log_of o past) }
 {}

@@ -5,7 +5,7 @@ use Rattle.sx_lists.specs.Answers.{or_later}
 use Rattle.sx_values.specs.Names.{same_name, has_name}
 use Rattle.sx_values.specs.Layouts.{Layout, is_int, is_null}
 use Rattle.sx_values.specs.SchemaFaults.{names_of}
-use Rattle.sx_values.specs.Catalogs.{schema_of}
+use Rattle.sx_values.specs.Catalogs.{schema_of, source_schema}
 use Rattle.sx_values.specs.declared.value.Value.{Value}
 use Rattle.sx_values.specs.declared.value.Value.TheVariants as value
 use Rattle.sx_values.specs.declared.schema.Kind.{Kind}
@@ -58,18 +58,18 @@ abbrev pub types_fault : ℕ → List Column → List Test → Option SpecFault
 types_fault place columns [] = None
 types_fault place columns (test ∷ tests) = if fits_column columns test.column test.value then types_fault (place + 1) columns tests else Some (fault.Types place)
 
--- whether a table of this name is declared
-abbrev pub is_declared : List Declared → List ℕ → Bool
-is_declared catalog name = is_some (schema_of catalog name)
+-- whether a table of this name is known
+abbrev pub is_known : List Declared → List ℕ → Bool
+is_known catalog name = is_some (schema_of catalog name)
 
 -- the first new name that is taken
 abbrev pub names_fault : List Declared → List ℕ → List ℕ → Option SpecFault
 names_fault catalog passing failing =
-    if is_declared catalog passing then Some (fault.NameTaken passing)
-    else if is_declared catalog failing || same_name passing failing then Some (fault.NameTaken failing)
+    if is_known catalog passing then Some (fault.NameTaken passing)
+    else if is_known catalog failing || same_name passing failing then Some (fault.NameTaken failing)
     else None
 
--- the first fault of a horizontal split, by the schema that the catalog has under its source's name
+-- the first fault of a horizontal split, by the schema of its source, if the name is that of a declared table
 abbrev pub part_fault : List Declared → Option Layout → List ℕ → List Test → List ℕ → List ℕ → Option SpecFault
 part_fault catalog None table tests passing failing = Some (fault.NoTable table)
 part_fault catalog (Some source) table tests passing failing =
@@ -77,7 +77,7 @@ part_fault catalog (Some source) table tests passing failing =
 
 -- the first fault of a transformation, in the order of the refusals; each other operator brings its own case
 abbrev pub spec_fault : List Declared → Spec → Option SpecFault
-spec_fault catalog (Part table tests passing failing) = part_fault catalog (schema_of catalog table) table tests passing failing
+spec_fault catalog (Part table tests passing failing) = part_fault catalog (source_schema catalog table) table tests passing failing
 spec_fault catalog (Join left right on_left on_right into) = None
 spec_fault catalog (Split table by dep rest dependent) = None
 spec_fault catalog (Union left right into) = None

@@ -1,5 +1,5 @@
 -- The operators over whole lists of rows.
-use Rattle.std.specs.Prelude.{⊤, not, Bool, false, ℕ, List, [], ◌∷◌, map, filter, All, if◌then◌else◌, Option, Some, None, IfSome}
+use Rattle.std.specs.Prelude.{⊤, not, Bool, true, false, ℕ, List, [], ◌∷◌, map, filter, All, if◌then◌else◌, Option, Some, None, IfSome}
 use Rattle.std.specs.List.{list_all, IsDistinct}
 use Rattle.std.specs.Ordering.{is_lt, is_le, is_eq, is_gt, is_ge}
 use Rattle.std.specs.declared.cmp.Ordering.{Ordering}
@@ -47,6 +47,13 @@ rows_passing columns tests rows = filter (passes columns tests) rows
 -- the rows of its second table: all others, in order
 abbrev pub rows_failing : List Column → List Test → List (List Value) → List (List Value)
 rows_failing columns tests rows = filter (λ row. not (passes columns tests row)) rows
+
+-- whether a transformation is a vertical split
+abbrev pub is_split : Spec → Bool
+is_split (Join left right on_left on_right into) = false
+is_split (Split table by dep rest dependent) = true
+is_split (Part table tests passing failing) = false
+is_split (Union left right into) = false
 
 -- the names of a transformation's sources, in order of side
 abbrev pub sources_of : Spec → List (List ℕ)

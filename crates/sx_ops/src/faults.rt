@@ -1,14 +1,16 @@
 // Why a horizontal split doesn't fit a catalog.
 ghost use Rattle.std.specs.Prelude.{◌≡◌, ◌+◌, ◌<◌, ◌^◌, length};
-ghost use Rattle.sx_ops.specs.Checks.{Refuses, column_fault, is_declared, is_of_kind, fits_column, types_fault, names_fault};
+ghost use Rattle.sx_ops.specs.Checks.{Refuses, column_fault, is_known, is_of_kind, fits_column, types_fault, names_fault};
 ghost use Rattle.sx_lists.specs.Answers.{unless};
 ghost use Rattle.sx_values.specs.Names.{has_name};
 ghost use Rattle.sx_values.specs.SchemaFaults.{names_of};
+ghost use Rattle.sx_values.specs.Catalogs.{source_schema};
+ghost use Rattle.std.specs.Option.{option_copied};
 
 use crate::{SpecFault, Test};
 use std::alloc::{AllocError, Global};
 use sx_lists::Copied;
-use sx_values::{Catalog, Column, Kind, Name, Value};
+use sx_values::{Catalog, Column, Kind, Name, Schema, Value};
 
 impl From<AllocError> for SpecFault {
     ghost use Rattle.sx_ops.specs.declared.spec.SpecFault.TheVariants.{Memory};
@@ -17,6 +19,17 @@ impl From<AllocError> for SpecFault {
 
     fn from(_error: AllocError) -> Self {
         SpecFault::Memory
+    }
+}
+
+// The schema of a table that may be the source of a transformation, or None for any other name.
+pub(crate) fn source_schema<'a>(catalog: &'a Catalog, name: &Name) -> Option<&'a Schema>
+    ensures source { option_copied result ≡ source_schema catalog.now name.now }
+{
+    if catalog.is_source(name) {
+        catalog.schema(name)
+    } else {
+        None
     }
 }
 
@@ -101,12 +114,12 @@ pub(crate) fn check_names(
 ) -> Result<(), SpecFault>
     ensures { Refuses (names_fault catalog.now passing.now failing.now) result }
 {
-    if is_declared(catalog, passing) {
+    if is_known(catalog, passing) {
         return Err(SpecFault::NameTaken {
             name: passing.copy(alloc)?,
         });
     }
-    if is_declared(catalog, failing) || *passing == *failing {
+    if is_known(catalog, failing) || *passing == *failing {
         return Err(SpecFault::NameTaken {
             name: failing.copy(alloc)?,
         });
@@ -114,9 +127,9 @@ pub(crate) fn check_names(
     Ok(())
 }
 
-// Whether a table of this name is declared.
-fn is_declared(catalog: &Catalog, name: &Name) -> bool
-    ensures { result ≡ is_declared catalog.now name.now }
+// Whether a table of this name is known.
+fn is_known(catalog: &Catalog, name: &Name) -> bool
+    ensures { result ≡ is_known catalog.now name.now }
 {
     catalog.schema(name).is_some()
 }

@@ -2,9 +2,9 @@
 ghost use Rattle.std.specs.Prelude.{◌≡◌, IfOk};
 ghost use Rattle.sx_ops.specs.Checks.{IsShaped, Refuses, spec_fault};
 ghost use Rattle.sx_ops.specs.Targets.{targets};
-ghost use Rattle.sx_ops.specs.Operators.{AreSourceRows, columns_of, sources_of, operator};
+ghost use Rattle.sx_ops.specs.Operators.{AreSourceRows, is_split, columns_of, sources_of, operator};
 
-use crate::faults::{check_columns, check_names, check_types};
+use crate::faults::{check_columns, check_names, check_types, source_schema};
 use crate::part::{part_targets, split_rows};
 use crate::{RowLists, Targets, Tests};
 use std::alloc::{AllocError, Global};
@@ -108,7 +108,7 @@ impl Spec {
                 yes,
                 no,
             } => {
-                let Some(source) = catalog.schema(table) else {
+                let Some(source) = source_schema(catalog, table) else {
                     return Err(SpecFault::NoTable {
                         name: table.copy(alloc)?,
                     });
@@ -119,6 +119,13 @@ impl Spec {
             }
             Spec::Join { .. } | Spec::Split { .. } | Spec::Union { .. } => unreachable!(),
         }
+    }
+
+    /// Whether it is a vertical split.
+    pub fn is_split(&self) -> bool
+        ensures { result ≡ is_split self.now }
+    {
+        matches!(self, Spec::Split { .. })
     }
 
     /// The new tables in order: their names and schemas.

@@ -14,7 +14,7 @@ use Rattle.sx_heap.specs.declared.seen.Seen.{Seen}
 use Rattle.sx_heap.specs.Relations.{Relation, SetsRow, row_at, same_key}
 use Rattle.sx_ops.specs.declared.spec.SpecFault.{SpecFault}
 use Rattle.sx_ops.specs.declared.spec.Test.{Test}
-use Rattle.sx_ops.specs.Checks.{part_fault, column_fault, types_fault, names_fault, is_declared}
+use Rattle.sx_ops.specs.Checks.{part_fault, column_fault, types_fault, names_fault, is_known}
 use Rattle.sx_copy.specs.declared.change.Change.{Change}
 use Rattle.sx_copy.specs.Readings.{learnt}
 use Rattle.sx_copy.specs.Changes.{Tells, behind, takes}
@@ -213,4 +213,4 @@ pub names_differ : (catalog : List Declared) (source : Option Layout) (table : L
 names_differ catalog None table tests passing failing none = absurd (cc)
 names_differ catalog (Some schema) table tests passing failing none =
     let names = later_none (types_fault 1 schema.columns tests) (names_fault catalog passing failing) (later_none (column_fault schema.columns tests) _ none) in
-    neither_taken (is_declared catalog passing) (is_declared catalog failing) (same_name passing failing) _ _ names
+    neither_taken (is_known catalog passing) (is_known catalog failing) (same_name passing failing) _ _ names

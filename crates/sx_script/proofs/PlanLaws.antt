@@ -41,7 +41,7 @@ asked_same lines l e = asked_from-push 1 lines l ∙ ap (λ o. asked_from 1 line
 -- ---- plans
 
 abbrev pub table : List ℕ → Layout → Declared
-table name layout = record { name = name; schema = layout; indexes = [] }
+table name layout = record { name = name; schema = layout; indexes = []; source = true }
 
 pub plan_table : (lines : List Line) (name : List ℕ) (layout : Layout) → plan_of (lines ++ line.Table name layout ∷ []) ≡ record (plan_of lines) { catalog = (plan_of lines).catalog ++ table name layout ∷ [] }
 plan_table lines name layout = let l = line.Table name layout in λ i. record {

@@ -18,7 +18,7 @@ use Rattle.sx_lines.specs.declared.line.Line.TheVariants as line
 
 -- the table that a line declares
 abbrev pub table_of : Line → Option Declared
-table_of (line.Table name schema) = Some (record { name = name; schema = schema; indexes = [] })
+table_of (line.Table name schema) = Some (record { name = name; schema = schema; indexes = []; source = true })
 table_of other = None
 
 -- the row that a line loads

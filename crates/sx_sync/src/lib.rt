@@ -1,9 +1,11 @@
 //! How old transactions are dealt with at a switch, and how far a transformation has come.
 #![tactic(auto)]
 
+mod ready;
 #[cfg(test)]
 mod tests;
 
+pub use ready::{Live, Lives, Ready, lesser, switch_ready};
 use std::alloc::{AllocError, Global};
 use sx_lists::Copied;
 

@@ -1,7 +1,9 @@
 pub mod EventLemmas
+pub mod HomeLemmas
 pub mod LiveLemmas
 pub mod LogLemmas
 pub mod ManagedLemmas
+pub mod OwnLemmas
 pub mod PatchLemmas
 pub mod PutLemmas
 pub mod TableLemmas

@@ -7,12 +7,12 @@ use Rattle.sx_values.specs.declared.value.Value.{Value}
 use Rattle.sx_log.specs.declared.record.Rec.{Rec}
 use Rattle.sx_log.specs.declared.record.Body.TheVariants.{Write, Undo}
 use Rattle.sx_log.specs.Undoing.{writes_left}
-use Rattle.sx_txn.specs.Managed.{Shape, is_live, without, with_ending}
+use Rattle.sx_txn.specs.Managed.{is_live, without, with_ending}
 use Rattle.sx_txn.specs.Writes.{rest_of}
 use Rattle.sx_txn.specs.declared.lives.Live.{Live}
 use Rattle.sx_txn.specs.Lives.{Kept, kept_all, alive_of, alive_all, with_write, with_undo, kept_without, writes_of}
-use Rattle.sx_txn.specs.Kept.{AreBelow, CanUndo, KeepsWrites}
-use Rattle.sx_txn.proofs.LogLemmas.{left_other, left_write, left_undo, numbered_more}
+use Rattle.sx_txn.specs.Kept.{AreBelow, KeepsWrites}
+use Rattle.sx_txn.proofs.LogLemmas.{left_other, left_write, left_undo}
 
 -- ** live transactions **
 
@@ -109,32 +109,13 @@ same-undo txn k = by (k.txn == txn)
 
 -- ** writes **
 
--- a further record leaves what can be undone
-can_undo_more : (r : Rec) (log : List Rec) (shapes : List Shape) (txn : ℕ) (lsns : List ℕ) → AllByRecursion (CanUndo log shapes txn) lsns → AllByRecursion (CanUndo (r ∷ log) shapes txn) lsns
-can_undo_more r log shapes txn [] each = tt
-can_undo_more r log shapes txn (lsn ∷ lsns) each =
-    let can = each.0 in (
-      record {
-        table = can.table;
-        key = can.key;
-        before = can.before;
-        after = can.after;
-        is = numbered_more log lsn (record { txn = txn; body = Write can.table can.key can.before can.after }) r can.is;
-        layout = can.layout;
-        there = can.there;
-        fits = can.fits;
-      },
-      can_undo_more r log shapes txn lsns each.1,
-    )
-
-keeps-other : (r : Rec) (log : List Rec) (shapes : List Shape) (k : Kept) → (r.txn ≡ k.txn → ⊥) → KeepsWrites log shapes k → KeepsWrites (r ∷ log) shapes k
-keeps-other r log shapes k apart keeps =
-    record { left = keeps.left ∙ sym (left_other k.txn r log apart); undoable = can_undo_more r log shapes k.txn k.writes keeps.undoable }
+keeps-other : (r : Rec) (log : List Rec) (k : Kept) → (r.txn ≡ k.txn → ⊥) → KeepsWrites log k → KeepsWrites (r ∷ log) k
+keeps-other r log k apart keeps = keeps ∙ sym (left_other k.txn r log apart)
 
 -- a record of a transaction that is none of these
-pub keep-others : (r : Rec) (log : List Rec) (shapes : List Shape) (kept : List Kept) → AllByRecursion (λ (k : Kept). r.txn ≡ k.txn → ⊥) kept → AllByRecursion (KeepsWrites log shapes) kept → AllByRecursion (KeepsWrites (r ∷ log) shapes) kept
-keep-others r log shapes [] apart each = tt
-keep-others r log shapes (k ∷ kept) apart each = (keeps-other r log shapes k apart.0 each.0, keep-others r log shapes kept apart.1 each.1)
+pub keep-others : (r : Rec) (log : List Rec) (kept : List Kept) → AllByRecursion (λ (k : Kept). r.txn ≡ k.txn → ⊥) kept → AllByRecursion (KeepsWrites log) kept → AllByRecursion (KeepsWrites (r ∷ log)) kept
+keep-others r log [] apart each = tt
+keep-others r log (k ∷ kept) apart each = (keeps-other r log k apart.0 each.0, keep-others r log kept apart.1 each.1)
 
 pub apart-zero : (limit : ℕ) (kept : List Kept) → AreBelow limit kept → AllByRecursion (λ (k : Kept). 0 ≡ k.txn → ⊥) kept
 apart-zero limit [] below = tt
@@ -148,75 +129,55 @@ apart-without txn (k ∷ kept) = by (k.txn == txn) refl (apart-without txn kept)
     by true e rest = rest
     by false e rest = (λ same. grind (arith, nat_tests), rest)
 
-pub keep-without : (txn : ℕ) (log : List Rec) (shapes : List Shape) (kept : List Kept) → AllByRecursion (KeepsWrites log shapes) kept → AllByRecursion (KeepsWrites log shapes) (kept_without txn kept)
-keep-without txn log shapes [] each = tt
-keep-without txn log shapes (k ∷ kept) each = by (k.txn == txn) (keep-without txn log shapes kept each.1)
+pub keep-without : (txn : ℕ) (log : List Rec) (kept : List Kept) → AllByRecursion (KeepsWrites log) kept → AllByRecursion (KeepsWrites log) (kept_without txn kept)
+keep-without txn log [] each = tt
+keep-without txn log (k ∷ kept) each = by (k.txn == txn) (keep-without txn log kept each.1)
   where
-    by : (b : Bool) → AllByRecursion (KeepsWrites log shapes) (kept_without txn kept) → AllByRecursion (KeepsWrites log shapes) (cond (not b) (k ∷ kept_without txn kept) (kept_without txn kept))
+    by : (b : Bool) → AllByRecursion (KeepsWrites log) (kept_without txn kept) → AllByRecursion (KeepsWrites log) (cond (not b) (k ∷ kept_without txn kept) (kept_without txn kept))
     by true rest = rest
     by false rest = (each.0, rest)
 
 -- a write of this record is left to its transaction
-pub keep-write : (txn : ℕ) (table : List ℕ) (key : List Value) (before after : Option (List Value)) (log : List Rec) (shapes : List Shape) (kept : List Kept)
-    → CanUndo (record { txn = txn; body = Write table key before after } ∷ log) shapes txn (length log + 1)
-    → AllByRecursion (KeepsWrites log shapes) kept
-    → AllByRecursion (KeepsWrites (record { txn = txn; body = Write table key before after } ∷ log) shapes) (map (with_write txn (length log + 1)) kept)
-keep-write txn table key before after log shapes [] can each = tt
-keep-write txn table key before after log shapes (k ∷ kept) can each = (by (k.txn == txn) refl, keep-write txn table key before after log shapes kept can each.1)
+pub keep-write : (txn : ℕ) (table : List ℕ) (key : List Value) (before after : Option (List Value)) (log : List Rec) (kept : List Kept)
+    → AllByRecursion (KeepsWrites log) kept
+    → AllByRecursion (KeepsWrites (record { txn = txn; body = Write table key before after } ∷ log)) (map (with_write txn (length log + 1)) kept)
+keep-write txn table key before after log [] each = tt
+keep-write txn table key before after log (k ∷ kept) each = (by (k.txn == txn) refl, keep-write txn table key before after log kept each.1)
   where
     r : Rec
     r = record { txn = txn; body = Write table key before after }
 
-    by : (b : Bool) → (k.txn == txn) ≡ b → KeepsWrites (r ∷ log) shapes (cond b (record { txn = k.txn; ending = k.ending; writes = (length log + 1) ∷ k.writes }) k)
+    by : (b : Bool) → (k.txn == txn) ≡ b → KeepsWrites (r ∷ log) (cond b (record { txn = k.txn; ending = k.ending; writes = (length log + 1) ∷ k.writes }) k)
     by true e =
         let same : txn ≡ k.txn = grind (arith, nat_tests) in
-        record {
-          left = ap (λ left. (length log + 1) ∷ left) each.0.left ∙ sym (left_write k.txn table key before after log) ∙ ap (λ (n : ℕ). writes_left k.txn (record { txn = n; body = Write table key before after } ∷ log)) (sym same);
-          undoable = (subst (λ (n : ℕ). CanUndo (r ∷ log) shapes n (length log + 1)) same can, can_undo_more r log shapes k.txn k.writes each.0.undoable);
-        }
-    by false e = let apart : txn ≡ k.txn → ⊥ = λ same. grind (arith, nat_tests) in keeps-other r log shapes k apart each.0
+        ap (λ left. (length log + 1) ∷ left) each.0 ∙ sym (left_write k.txn table key before after log) ∙ ap (λ (n : ℕ). writes_left k.txn (record { txn = n; body = Write table key before after } ∷ log)) (sym same)
+    by false e = let apart : txn ≡ k.txn → ⊥ = λ same. grind (arith, nat_tests) in keeps-other r log k apart each.0
 
 -- an undo of a transaction's last write takes it away
-pub keep-undo : (txn lsn : ℕ) (left : List ℕ) (table : List ℕ) (key : List Value) (before after : Option (List Value)) (log : List Rec) (shapes : List Shape) (kept : List Kept)
+pub keep-undo : (txn lsn : ℕ) (left : List ℕ) (table : List ℕ) (key : List Value) (before after : Option (List Value)) (log : List Rec) (kept : List Kept)
     → writes_left txn log ≡ lsn ∷ left
-    → AllByRecursion (KeepsWrites log shapes) kept
-    → AllByRecursion (KeepsWrites (record { txn = txn; body = Undo lsn table key before after } ∷ log) shapes) (map (with_undo txn) kept)
-keep-undo txn lsn left table key before after log shapes [] is each = tt
-keep-undo txn lsn left table key before after log shapes (k ∷ kept) is each = (by (k.txn == txn) refl, keep-undo txn lsn left table key before after log shapes kept is each.1)
+    → AllByRecursion (KeepsWrites log) kept
+    → AllByRecursion (KeepsWrites (record { txn = txn; body = Undo lsn table key before after } ∷ log)) (map (with_undo txn) kept)
+keep-undo txn lsn left table key before after log [] is each = tt
+keep-undo txn lsn left table key before after log (k ∷ kept) is each = (by (k.txn == txn) refl, keep-undo txn lsn left table key before after log kept is each.1)
   where
     r : Rec
     r = record { txn = txn; body = Undo lsn table key before after }
 
-    rest_undoable : (writes : List ℕ) → AllByRecursion (CanUndo log shapes k.txn) writes → AllByRecursion (CanUndo (r ∷ log) shapes k.txn) (rest_of writes)
-    rest_undoable [] all = tt
-    rest_undoable (first ∷ writes) all = can_undo_more r log shapes k.txn writes all.1
-
-    by : (b : Bool) → (k.txn == txn) ≡ b → KeepsWrites (r ∷ log) shapes (cond b (record { txn = k.txn; ending = true; writes = rest_of k.writes }) k)
+    by : (b : Bool) → (k.txn == txn) ≡ b → KeepsWrites (r ∷ log) (cond b (record { txn = k.txn; ending = true; writes = rest_of k.writes }) k)
     by true e =
         let same : txn ≡ k.txn = grind (arith, nat_tests) in
         let mine : writes_left k.txn log ≡ lsn ∷ left = ap (λ (n : ℕ). writes_left n log) (sym same) ∙ is in
-        record {
-          left = ap rest_of (each.0.left ∙ mine) ∙ sym (left_undo k.txn lsn table key before after log left mine) ∙ ap (λ (n : ℕ). writes_left k.txn (record { txn = n; body = Undo lsn table key before after } ∷ log)) (sym same);
-          undoable = rest_undoable k.writes each.0.undoable;
-        }
-    by false e = let apart : txn ≡ k.txn → ⊥ = λ same. grind (arith, nat_tests) in keeps-other r log shapes k apart each.0
+        ap rest_of (each.0 ∙ mine) ∙ sym (left_undo k.txn lsn table key before after log left mine) ∙ ap (λ (n : ℕ). writes_left k.txn (record { txn = n; body = Undo lsn table key before after } ∷ log)) (sym same)
+    by false e = let apart : txn ≡ k.txn → ⊥ = λ same. grind (arith, nat_tests) in keeps-other r log k apart each.0
 
 -- the writes that a live transaction keeps are those that are left
-pub writes_kept : (txn : ℕ) (log : List Rec) (shapes : List Shape) (kept : List Kept) → is_live (alive_all kept) txn ≡ true → AllByRecursion (KeepsWrites log shapes) kept → writes_of kept txn ≡ writes_left txn log
-writes_kept txn log shapes [] live each = absurd (false≢true live)
-writes_kept txn log shapes (k ∷ kept) live each = by (k.txn == txn) refl (λ h. writes_kept txn log shapes kept h each.1) live
+pub writes_kept : (txn : ℕ) (log : List Rec) (kept : List Kept) → is_live (alive_all kept) txn ≡ true → AllByRecursion (KeepsWrites log) kept → writes_of kept txn ≡ writes_left txn log
+writes_kept txn log [] live each = absurd (false≢true live)
+writes_kept txn log (k ∷ kept) live each = by (k.txn == txn) refl (λ h. writes_kept txn log kept h each.1) live
   where
     by : (b : Bool) → (k.txn == txn) ≡ b → (is_live (alive_all kept) txn ≡ true → writes_of kept txn ≡ writes_left txn log) → (b || is_live (alive_all kept) txn) ≡ true → cond b k.writes (writes_of kept txn) ≡ writes_left txn log
-    by true e again h = let same : k.txn ≡ txn = grind (arith, nat_tests) in each.0.left ∙ ap (λ (n : ℕ). writes_left n log) same
-    by false e again h = again h
-
--- and each of them can be undone
-pub undoable_kept : (txn : ℕ) (log : List Rec) (shapes : List Shape) (kept : List Kept) → is_live (alive_all kept) txn ≡ true → AllByRecursion (KeepsWrites log shapes) kept → AllByRecursion (CanUndo log shapes txn) (writes_of kept txn)
-undoable_kept txn log shapes [] live each = absurd (false≢true live)
-undoable_kept txn log shapes (k ∷ kept) live each = by (k.txn == txn) refl (λ h. undoable_kept txn log shapes kept h each.1) live
-  where
-    by : (b : Bool) → (k.txn == txn) ≡ b → (is_live (alive_all kept) txn ≡ true → AllByRecursion (CanUndo log shapes txn) (writes_of kept txn)) → (b || is_live (alive_all kept) txn) ≡ true → AllByRecursion (CanUndo log shapes txn) (cond b k.writes (writes_of kept txn))
-    by true e again h = let same : k.txn ≡ txn = grind (arith, nat_tests) in subst (λ (n : ℕ). AllByRecursion (CanUndo log shapes n) k.writes) same each.0.undoable
+    by true e again h = let same : k.txn ≡ txn = grind (arith, nat_tests) in each.0 ∙ ap (λ (n : ℕ). writes_left n log) same
     by false e again h = again h
 
 -- a live transaction's number is among those that were begun

@@ -15,8 +15,10 @@ use Rattle.sx_heap.specs.NamedTables.{table_named, with_table, SetsRowIn, Remove
 use Rattle.sx_heap.proofs.RowLemmas.{same_key_tells, same_key-refl}
 use Rattle.sx_heap.proofs.NameLemmas.{with_table_same}
 use Rattle.sx_txn.specs.declared.patch.Patch.{Patch}
-use Rattle.sx_txn.specs.Kept.{FitsImage}
-use Rattle.sx_txn.specs.Patches.{HasRow, TakesPatch, Patched, SameTables}
+use Rattle.sx_txn.specs.Managed.{SameTables}
+use Rattle.sx_log.specs.Images.{FitsImage}
+use Rattle.sx_txn.specs.Patches.{HasRow, TakesPatch, Patched}
+use Rattle.sx_txn.proofs.EventLemmas.{tables_stay}
 
 pub on_err : {T E : Type 0} (r : Result T E) (P : Type 0) → P → OnErr r P
 on_err (Ok x) P holds = tt
@@ -71,10 +73,6 @@ patched-none tables p lsn before after takes = by (table_named tables p.table) r
       others = sym (with_table_same tables p.table table is);
     }
 
-pub same_tables-refl : (tables : List NamedTable) → SameTables tables tables
-same_tables-refl [] = tt
-same_tables-refl (t ∷ tables) = (record { name = refl; schema = refl; rows = λ key. refl }, same_tables-refl tables)
-
 -- a table that was put under a name is there
 named_with : (tables : List NamedTable) (name : List ℕ) (old new : Relation) → table_named tables name ≡ Some old → table_named (with_table tables name new) name ≡ Some new
 named_with [] name old new found = absurd (cc)
@@ -107,7 +105,7 @@ same_tables-with (t ∷ tables) name old new found schema rows = by (same_name t
         let one : t.table ≡ old = cc in
         let back = sym one in (
           record { name = refl; schema = schema ∙ ap (λ (r : Relation). r.schema) back; rows = λ key. rows key ∙ ap (λ (r : Relation). row_at r.rows key) back },
-          same_tables-refl tables,
+          tables_stay tables,
         )
     by false here again = (record { name = refl; schema = refl; rows = λ key. refl }, again here)
 

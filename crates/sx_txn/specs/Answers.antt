@@ -3,7 +3,6 @@ use Rattle.std.specs.Prelude.{◌≡◌, [], ℕ, List, Option, Some, None}
 use Rattle.sx_values.specs.declared.value.Value.{Value}
 use Rattle.sx_values.specs.Layouts.{Layout}
 use Rattle.sx_log.specs.declared.record.Body.TheVariants.{Abort}
-use Rattle.sx_log.specs.State.{row_left}
 use Rattle.sx_log.specs.Undoing.{writes_left}
 use Rattle.sx_locks.specs.declared.mode.Mode.TheVariants.{Shared, Exclusive}
 use Rattle.sx_locks.specs.Locks.{IsLeastOther}
@@ -15,7 +14,7 @@ use Rattle.sx_txn.specs.declared.answers.TxnWrite.{TxnWrite}
 use Rattle.sx_txn.specs.declared.answers.TxnWrite.TheVariants as write
 use Rattle.sx_txn.specs.declared.answers.TxnUndo.{TxnUndo}
 use Rattle.sx_txn.specs.declared.answers.TxnUndo.TheVariants as undo
-use Rattle.sx_txn.specs.Managed.{Managed, Unchanged, schema_in}
+use Rattle.sx_txn.specs.Managed.{Managed, Unchanged, schema_in, row_now}
 use Rattle.sx_txn.specs.Turns.{Hinders, Reads, Writes, Ends, Undoes, key_of_change, image_of}
 
 -- what an answer to a read says
@@ -36,12 +35,12 @@ refusal (Delete key) None = Some write.Missing
 -- no other's lock conflicts, but the change is refused by what its key has, and all stays
 pub record Refuses (old new : Managed) (txn : ℕ) (table : List ℕ) (key : List Value) (change : Change) (answer : TxnWrite) : Type 0 where
   pub free : IsLeastOther old.locks txn table key Exclusive None
-  pub refused : refusal change (row_left old.log table key) ≡ Some answer
+  pub refused : refusal change (row_now old.tables table key) ≡ Some answer
   pub same : Unchanged old new
 
 -- a change was made that what its key had allows
 pub record Makes (old new : Managed) (txn : ℕ) (table : List ℕ) (key : List Value) (change : Change) (lsn : ℕ) : Type 0 where
-  pub allowed : refusal change (row_left old.log table key) ≡ None
+  pub allowed : refusal change (row_now old.tables table key) ≡ None
   pub writes : Writes old new txn table key (image_of change) lsn
 
 -- what an answer to a change at a key says

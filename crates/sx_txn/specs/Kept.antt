@@ -1,22 +1,20 @@
 -- What a manager's fields keep of each other.
-use Rattle.std.specs.Prelude.{◌≡◌, ◌+◌, ◌<◌, ◌≤◌, ⊤, ℕ, List, [], ◌∷◌, length, map, Option, Some, None}
+use Rattle.std.specs.Prelude.{◌≡◌, ◌+◌, ◌<◌, ◌≤◌, ⊤, ℕ, List, [], ◌∷◌, length, map}
 use Rattle.std.specs.List.{AllByRecursion}
-use Rattle.sx_lists.specs.Places.{Growing, numbered}
-use Rattle.sx_values.specs.declared.value.Value.{Value}
-use Rattle.sx_values.specs.Layouts.{Layout, Admits, key_of}
-use Rattle.sx_heap.specs.declared.tables.NamedTable.{NamedTable}
+use Rattle.sx_lists.specs.Places.{Growing}
+use Rattle.sx_txn.specs.Homes.{Homed}
 use Rattle.sx_log.specs.declared.record.Rec.{Rec}
 use Rattle.sx_log.specs.declared.record.Body.{Body}
 use Rattle.sx_log.specs.declared.record.Body.TheVariants.{Write, Undo, Commit, Abort, Mark, Check, Switch}
 use Rattle.sx_log.specs.Undoing.{writes_left}
 use Rattle.sx_locks.specs.Locks.{Locks}
 use Rattle.sx_txn.specs.Lives.{Kept, alive_all}
-use Rattle.sx_txn.specs.Managed.{Shape, Managed, AreTables, schema_in, shape_of}
+use Rattle.sx_txn.specs.Managed.{Managed, AreOwn, shape_of}
 
 -- what a contract sees of a manager that keeps these
-abbrev pub managed : List NamedTable → Growing Rec → Locks → List Kept → ℕ → Managed
-managed tables log locks kept begun =
-    record { shapes = map shape_of tables; tables = tables; log = log.newest; spare = log.spare; locks = locks; living = alive_all kept; begun = begun }
+abbrev pub managed : Homed → Growing Rec → Locks → List Kept → ℕ → Managed
+managed homes log locks kept begun =
+    record { shapes = map shape_of homes.all; tables = homes.all; own = homes.own; log = log.newest; spare = log.spare; locks = locks; living = alive_all kept; begun = begun }
 
 -- a record that ends its transaction
 abbrev pub IsEnd : Body → Type 0
@@ -39,30 +37,13 @@ pub record AreNumbered (log : List Rec) (kept : List Kept) (begun : ℕ) : Type 
   pub records : AllByRecursion (λ (r : Rec). r.txn ≤ begun) log
   pub few : begun ≤ length log + length kept
 
--- a row that the schema admits and that has the key, or none
-abbrev pub FitsImage : Layout → List Value → Option (List Value) → Type 0
-FitsImage layout key None = ⊤
-FitsImage layout key (Some row) = Admits layout row × (key ≡ key_of layout row)
+-- a transaction keeps the writes that are left to undo
+abbrev pub KeepsWrites : List Rec → Kept → Type 0
+KeepsWrites log k = k.writes ≡ writes_left k.txn log
 
--- the record with this LSN is a transaction's write to a table that is there, whose image before can be put back
-pub record CanUndo (log : List Rec) (shapes : List Shape) (txn lsn : ℕ) : Type 0 where
-  pub table : List ℕ
-  pub key : List Value
-  pub before : Option (List Value)
-  pub after : Option (List Value)
-  pub is : numbered log lsn ≡ Some (record { txn = txn; body = Write table key before after })
-  pub layout : Layout
-  pub there : schema_in shapes table ≡ Some layout
-  pub fits : FitsImage layout key before
-
--- a transaction keeps the writes that are left to undo, and each can be undone
-pub record KeepsWrites (log : List Rec) (shapes : List Shape) (k : Kept) : Type 0 where
-  pub left : k.writes ≡ writes_left k.txn log
-  pub undoable : AllByRecursion (CanUndo log shapes k.txn) k.writes
-
--- the tables have what the log leaves; the log has room for an end record of each live transaction
-pub record IsManaged (tables : List NamedTable) (log : Growing Rec) (kept : List Kept) (begun : ℕ) : Type 0 where
-  pub rows : AreTables log.newest (map shape_of tables) tables
+-- the declared tables have what the log leaves; the log has room for an end record of each live transaction
+pub record IsManaged (homes : Homed) (log : Growing Rec) (kept : List Kept) (begun : ℕ) : Type 0 where
+  pub rows : AreOwn homes.own log.newest (map shape_of homes.all) homes.all
   pub room : length kept ≤ log.spare
   pub numbers : AreNumbered log.newest kept begun
-  pub writes : AllByRecursion (KeepsWrites log.newest (map shape_of tables)) kept
+  pub writes : AllByRecursion (KeepsWrites log.newest) kept

@@ -1,4 +1,5 @@
 pub mod Answers
+pub mod Homes
 pub mod Kept
 pub mod Lives
 pub mod Managed

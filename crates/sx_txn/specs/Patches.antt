@@ -1,6 +1,5 @@
 -- A change of the row of one key of a table, with what the key has before it.
-use Rattle.std.specs.Prelude.{◌≡◌, ◌∷◌, ⊤, ℕ, List, [], map, Option, Some, None, IsSome, IsSomeAnd}
-use Rattle.std.specs.Prelude.{option_map}
+use Rattle.std.specs.Prelude.{◌≡◌, ℕ, List, map, Option, Some, None, IsSome}
 use Rattle.std.specs.List.{IsDistinct}
 use Rattle.sx_values.specs.declared.value.Value.{Value}
 use Rattle.sx_values.specs.Names.{same_name}
@@ -8,15 +7,14 @@ use Rattle.sx_values.specs.Layouts.{Layout}
 use Rattle.sx_log.specs.declared.record.Rec.{Rec}
 use Rattle.sx_log.specs.declared.record.Body.TheVariants.{Write, Undo}
 use Rattle.sx_log.specs.Undoing.{undo_record}
-use Rattle.sx_log.specs.State.{row_left, stored}
+use Rattle.sx_log.specs.State.{stored}
 use Rattle.sx_heap.specs.declared.tables.NamedTable.{NamedTable}
-use Rattle.sx_heap.specs.Relations.{Relation, row_at}
-use Rattle.sx_heap.specs.NamedTables.{table_named, SetsRowIn}
+use Rattle.sx_heap.specs.Relations.{Relation}
 use Rattle.sx_txn.specs.declared.patch.Patch.{Patch}
 use Rattle.sx_txn.specs.declared.answers.Change.{Change}
-use Rattle.sx_txn.specs.Managed.{Shape, Managed, schema_in}
-use Rattle.sx_txn.specs.Turns.{key_of_change}
-use Rattle.sx_txn.specs.Kept.{FitsImage}
+use Rattle.sx_txn.specs.Managed.{Shape, Managed, schema_in, row_in, row_now}
+use Rattle.sx_txn.specs.Turns.{key_of_change, SetsRowAt}
+use Rattle.sx_log.specs.Images.{FitsImage}
 
 -- the record of a transaction's write that makes a change
 abbrev pub write_of : ℕ → Patch → Rec
@@ -30,25 +28,21 @@ undo_of txn undoes p = record { txn = txn; body = Undo undoes p.table p.key p.be
 abbrev pub AreApart : List Shape → Type 0
 AreApart shapes = IsDistinct same_name (map (λ (s : Shape). s.name) shapes)
 
--- the row that a table has at a key, without its LSN
-abbrev pub row_in : Relation → List Value → Option (List Value)
-row_in table key = option_map (λ (s : List Value × ℕ). s.0) (row_at table.rows key)
-
 -- the key of a table has this row, or none
 pub record IsThere (m : Managed) (table : List ℕ) (key : List Value) (row : Option (List Value)) : Type 0 where
   pub apart : AreApart m.shapes
-  pub was : row_left m.log table key ≡ row
+  pub was : row_now m.tables table key ≡ row
   pub fits : (layout : Layout) → schema_in m.shapes table ≡ Some layout → FitsImage layout key row
 
 -- the same of a table
 pub record HasRow (key : List Value) (row : Option (List Value)) (table : Relation) : Type 0 where
-  pub was : row_in table key ≡ row
+  pub was : row_in key table ≡ row
   pub fits : FitsImage table.schema key row
 
 -- the change begins with what the key has, and its row can stand there
 pub record CanPatch (m : Managed) (p : Patch) : Type 0 where
   pub apart : AreApart m.shapes
-  pub was : row_left m.log p.table p.key ≡ p.before
+  pub was : row_now m.tables p.table p.key ≡ p.before
   pub layout : Layout
   pub there : schema_in m.shapes p.table ≡ Some layout
   pub held : FitsImage layout p.key p.before
@@ -56,7 +50,7 @@ pub record CanPatch (m : Managed) (p : Patch) : Type 0 where
 
 -- the same of a table
 pub record TakesPatch (p : Patch) (table : Relation) : Type 0 where
-  pub was : row_in table p.key ≡ p.before
+  pub was : row_in p.key table ≡ p.before
   pub fits : FitsImage table.schema p.key p.after
 
 -- the change has a row before or after it
@@ -65,19 +59,7 @@ HasImage p = p.before ≡ None → IsSome p.after
 
 -- the table of the change has its image at its key; all else stays
 abbrev pub Patched : List NamedTable → List NamedTable → Patch → ℕ → Type 0
-Patched old new p lsn = IsSomeAnd (table_named old p.table) (λ before. SetsRowIn old new p.table before p.key (stored lsn p.after))
-
--- the same tables, with the same rows
-pub record SameTable (old new : NamedTable) : Type 0 where
-  pub name : new.name ≡ old.name
-  pub schema : new.table.schema ≡ old.table.schema
-  pub rows : (key : List Value) → row_at new.table.rows key ≡ row_at old.table.rows key
-
-abbrev pub SameTables : List NamedTable → List NamedTable → Type 0
-SameTables [] [] = ⊤
-SameTables (t ∷ old) (u ∷ new) = SameTable t u × SameTables old new
-SameTables [] (u ∷ new) = ⊥
-SameTables (t ∷ old) [] = ⊥
+Patched old new p lsn = SetsRowAt old new p.table p.key (stored lsn p.after)
 
 -- this is the key that a change of a table is about
 abbrev pub IsKeyOf : List Shape → List ℕ → Change → List Value → Type 0
@@ -86,4 +68,4 @@ IsKeyOf shapes table change key = (layout : Layout) → schema_in shapes table �
 -- the change undoes a transaction's last write that is left, which has this LSN
 pub record IsBack (m : Managed) (txn undoes : ℕ) (p : Patch) : Type 0 where
   pub can : CanPatch m p
-  pub made : undo_record m.log txn ≡ Some (undo_of txn undoes p)
+  pub made : undo_record (row_now m.tables) m.log txn ≡ Some (undo_of txn undoes p)

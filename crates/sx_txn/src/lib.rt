@@ -2,6 +2,7 @@
 #![tactic(auto)]
 
 mod answers;
+mod homes;
 mod lives;
 mod lsns;
 mod manager;

@@ -1,11 +1,13 @@
 // The manager and its fields, and what it does without a key.
-ghost use Rattle.std.specs.Prelude.{◌≡◌, ◌+◌, ◌≤◌, ◌<◌, [], map, length, true, false, IfOk, OnOk, OnErr};
+ghost use Rattle.std.specs.Prelude.{◌≡◌, ◌+◌, ◌≤◌, ◌<◌, ◌++◌, [], map, length, take, drop, true, false, IfOk, OnOk, OnErr};
 ghost use Rattle.std.specs.List.{AllByRecursion};
 ghost use Rattle.sx_log.specs.declared.record.Body.TheVariants.{Commit};
-ghost use Rattle.sx_txn.specs.Managed.{AreTables, Unchanged, shape_of, is_live, is_ending};
+ghost use Rattle.sx_txn.specs.Managed.{AreTables, Unchanged, SameBut, shape_of, is_live, is_ending};
 ghost use Rattle.sx_txn.specs.Turns.{Begins, Ends, Notes, IsNote};
 ghost use Rattle.sx_txn.specs.Kept.{IsEnd};
+ghost use Rattle.sx_heap.specs.NamedTables.{AreNamedApart};
 
+use crate::homes::Homes;
 use crate::lives::{self, Live};
 use std::alloc::{AllocError, Global};
 use std::marker::Model;
@@ -17,7 +19,7 @@ use sx_log::{Body, Log, Rec};
 #[derive(Drop)]
 pub struct Manager {
     pub(crate) alloc: Global,
-    pub(crate) tables: Tables,
+    pub(crate) tables: Homes,
     pub(crate) log: Log,
     pub(crate) locks: LockTable,
     /// The live transactions, the last one begun first.
@@ -39,11 +41,13 @@ impl Model for Manager {
 }
 
 impl Manager {
-    /// A manager without transactions, of tables that have the rows that a log leaves.
+    /// A manager without transactions and without new tables, of declared tables that have the rows that a log leaves.
     pub fn new(alloc: Global, tables: Tables, log: Log) -> Manager
         requires tables { AreTables log.newest (map shape_of tables) tables }
         requires nobody { AllByRecursion (λ r. r.txn ≡ 0) log.newest }
         ensures shapes { result.shapes ≡ map shape_of tables }
+        ensures tables { result.tables ≡ tables }
+        ensures own { result.own ≡ length tables }
         ensures log { result.log ≡ log.newest }
         ensures locks { result.locks ≡ [] }
         ensures living { result.living ≡ [] }
@@ -51,7 +55,7 @@ impl Manager {
     {
         Manager {
             alloc,
-            tables,
+            tables: Homes::new(alloc, tables),
             log,
             locks: LockTable::new(alloc),
             living: Vec::new(alloc),
@@ -61,6 +65,7 @@ impl Manager {
 
     /// Begins a transaction, with room in the log for the record that will end it. Want of
     /// memory changes nothing but the room.
+    #[tactic(auto, using(crate::proofs::EventLemmas::tables_stay))]
     pub fn begin(&mut self) -> Result<u64, AllocError>
         ensures ok { IfOk result (Begins self.old self.new) }
         ensures err { OnErr result (Unchanged self.old self.new) }
@@ -83,6 +88,7 @@ impl Manager {
 
     /// Makes room in the log for `n` records beside those that will end transactions. Want of
     /// memory changes nothing.
+    #[tactic(auto, using(crate::proofs::EventLemmas::tables_stay))]
     pub fn room(&mut self, n: u64) -> Result<(), AllocError>
         ensures ok { OnOk result (n + length self.new.living ≤ self.new.spare) }
         ensures same { Unchanged self.old self.new }
@@ -95,6 +101,7 @@ impl Manager {
 
     /// Appends a record of nobody's in room that was made, and answers its LSN. It takes no
     /// memory.
+    #[tactic(auto, using(crate::proofs::EventLemmas::tables_stay))]
     pub fn note(&mut self, body: Body) -> u64
         requires note { IsNote body }
         requires room { length self.old.living < self.old.spare }
@@ -127,13 +134,40 @@ impl Manager {
         &self.log
     }
 
-    /// The tables.
+    /// The declared tables.
     pub fn tables(&self) -> &Tables
-        ensures now { result.now ≡ self.now.tables }
-        ensures tables { AreTables self.now.log self.now.shapes result.now }
-        ensures shapes { map shape_of result.now ≡ self.now.shapes }
+        ensures now { result.now ≡ take self.now.own self.now.tables }
+        ensures tables { AreTables self.now.log (map shape_of result.now) result.now }
+        ensures shapes { map shape_of result.now ≡ take self.now.own self.now.shapes }
     {
-        &self.tables
+        self.tables.own()
+    }
+
+    /// The new tables.
+    pub fn new_tables(&self) -> &Tables
+        ensures now { result.now ≡ drop self.now.own self.now.tables }
+        ensures shapes { map shape_of result.now ≡ drop self.now.own self.now.shapes }
+    {
+        self.tables.fresh()
+    }
+
+    /// Puts in new tables where there are none. It takes no memory.
+    pub fn put_new(&mut self, tables: Tables)
+        requires none { length self.old.tables ≡ self.old.own }
+        requires apart { AreNamedApart (self.old.tables ++ tables) }
+        ensures tables { self.new.tables ≡ self.old.tables ++ tables }
+        ensures others { SameBut self.old self.new }
+    {
+        self.tables.put_fresh(tables);
+    }
+
+    /// Hands out the new tables, and leaves none. It takes no memory.
+    pub fn take_new(&mut self) -> Tables
+        ensures were { result ≡ drop self.old.own self.old.tables }
+        ensures tables { self.new.tables ≡ take self.old.own self.old.tables }
+        ensures others { SameBut self.old self.new }
+    {
+        self.tables.take_fresh(self.alloc)
     }
 
     /// The locks.

@@ -6,12 +6,13 @@ ghost use Rattle.sx_locks.specs.Locks.{IsLeastOther, LockedSo, SameLocks};
 ghost use Rattle.sx_locks.specs.declared.mode.Mode.TheVariants.{Exclusive};
 ghost use Rattle.sx_txn.specs.Answers.{refusal};
 ghost use Rattle.sx_txn.specs.Turns.{image_of};
-ghost use Rattle.sx_txn.specs.Patches.{write_of, undo_of, HasRow, TakesPatch, HasImage, Patched, SameTables};
+ghost use Rattle.sx_txn.specs.Patches.{write_of, undo_of, HasRow, TakesPatch, HasImage, Patched};
+ghost use Rattle.sx_txn.specs.Managed.{SameTables};
 
+use crate::homes::Homes;
 use crate::{Change, TxnWrite};
 use std::alloc::{AllocError, Global};
 use std::sync::ledger::Ledger;
-use sx_heap::Tables;
 use sx_lists::Copied;
 use sx_locks::{LockTable, Mode};
 use sx_log::{Body, Rec};
@@ -71,14 +72,14 @@ impl Patch {
 // A copy of the row that a key has in the table of a name, or None.
 pub(crate) fn row_there<L: Ledger>(
     alloc: Global,
-    tables: &Tables,
+    tables: &Homes,
     name: &Name,
     key: &Key,
     steps: &mut Steps<L>,
 ) -> Result<Option<Row>, AllocError>
-    requires { IsSome (table_named tables.now name.now) }
-    ensures row { IfOk result (λ row. IsSomeAnd (table_named tables.now name.now) (HasRow key.now row)) }
-    ensures apart { AreNamedApart tables.now }
+    requires { IsSome (table_named tables.now.all name.now) }
+    ensures row { IfOk result (λ row. IsSomeAnd (table_named tables.now.all name.now) (HasRow key.now row)) }
+    ensures apart { AreNamedApart tables.now.all }
     ensures least { steps.old ≤ steps.new }
     ensures most { steps.new ≤ steps.old + 1 }
 {
@@ -118,15 +119,16 @@ pub(crate) fn image_of(change: Change) -> Option<Row>
 // Puts the image of a change at its key. It wants memory only where the key has no row, and
 // then changes nothing.
 pub(crate) fn put_image(
-    tables: &mut Tables,
+    tables: &mut Homes,
     patch: &Patch,
     image: Option<Row>,
     lsn: u64,
 ) -> Result<(), AllocError>
     requires image { image ≡ patch.now.after }
-    requires takes { IsSomeAnd (table_named tables.old patch.now.table) (TakesPatch patch.now) }
-    ensures ok { OnOk result (Patched tables.old tables.new patch.now lsn) }
+    requires takes { IsSomeAnd (table_named tables.old.all patch.now.table) (TakesPatch patch.now) }
+    ensures ok { OnOk result (Patched tables.old.all tables.new.all patch.now lsn) }
     ensures err { OnErr result (tables.new ≡ tables.old) }
+    ensures own { tables.new.own ≡ tables.old.own }
     ensures succeeds { IsSome patch.now.before → IsOk result }
 {
     match (patch.before.is_some(), image) {
@@ -158,7 +160,7 @@ pub(crate) fn take_lock(
 
 // Puts the image of a change at its key and locks it. Want of memory changes nothing.
 pub(crate) fn put_locked(
-    tables: &mut Tables,
+    tables: &mut Homes,
     locks: &mut LockTable,
     txn: u64,
     patch: &Patch,
@@ -166,12 +168,13 @@ pub(crate) fn put_locked(
     lsn: u64,
 ) -> Result<(), AllocError>
     requires image { image ≡ patch.now.after }
-    requires takes { IsSomeAnd (table_named tables.old patch.now.table) (TakesPatch patch.now) }
+    requires takes { IsSomeAnd (table_named tables.old.all patch.now.table) (TakesPatch patch.now) }
     requires some { HasImage patch.now }
     requires free { IsLeastOther locks.old txn patch.now.table patch.now.key Exclusive None }
-    ensures rows { OnOk result (Patched tables.old tables.new patch.now lsn) }
+    ensures own { tables.new.own ≡ tables.old.own }
+    ensures rows { OnOk result (Patched tables.old.all tables.new.all patch.now lsn) }
     ensures locked { OnOk result (LockedSo locks.old locks.new txn patch.now.table patch.now.key Exclusive) }
-    ensures same_rows { OnErr result (SameTables tables.old tables.new) }
+    ensures same_rows { OnErr result (SameTables tables.old.all tables.new.all) }
     ensures same_locks { OnErr result (SameLocks locks.old locks.new) }
 {
     if patch.before.is_some() {

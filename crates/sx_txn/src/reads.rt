@@ -1,6 +1,7 @@
 // What the manager reads, and what it makes of a key that it is asked for.
 ghost use Rattle.std.specs.Prelude.{◌≡◌, ◌+◌, ◌≤◌, true, false, IfOk, OnErr, IsSome};
-ghost use Rattle.sx_txn.specs.Managed.{Unchanged, is_live, is_ending, schema_in};
+ghost use Rattle.std.specs.Option.{option_copied};
+ghost use Rattle.sx_txn.specs.Managed.{OwnMeets, Unchanged, is_live, is_ending, schema_in};
 ghost use Rattle.sx_txn.specs.Turns.{CanChange, FitsSchema, key_of_change};
 ghost use Rattle.sx_txn.specs.Answers.{AnswersRead, read_of};
 ghost use Rattle.sx_txn.specs.Patches.{IsThere, IsKeyOf};
@@ -13,11 +14,12 @@ use sx_heap::Table;
 use sx_lists::Copied;
 use sx_locks::Mode;
 use sx_steps::Steps;
-use sx_values::{Key, Name, Row};
+use sx_values::{Key, Name, Row, Schema};
 
 impl Manager {
     /// Reads the row of a key and locks the key, shared, to the transaction's end. Want of
     /// memory changes nothing.
+    #[tactic(auto, using(crate::proofs::EventLemmas::tables_stay))]
     pub fn read<L: Ledger>(
         &mut self,
         txn: u64,
@@ -30,6 +32,7 @@ impl Manager {
         requires there { IsSome (schema_in self.old.shapes table.now) }
         ensures ok { IfOk result (AnswersRead self.old self.new txn table.now key.now) }
         ensures err { OnErr result (Unchanged self.old self.new) }
+        ensures meets { OwnMeets self.old }
         ensures least { steps.old ≤ steps.new }
         ensures most { steps.new ≤ steps.old + 1 }
     {
@@ -39,6 +42,7 @@ impl Manager {
 
     /// The same, with its answer twice: to be kept, and to be told. Both are made before a lock is
     /// taken.
+    #[tactic(auto, using(crate::proofs::EventLemmas::tables_stay))]
     pub fn read_twice<L: Ledger>(
         &mut self,
         txn: u64,
@@ -52,6 +56,7 @@ impl Manager {
         ensures ok { IfOk result (λ read. AnswersRead self.old self.new txn table.now key.now read.0) }
         ensures same { IfOk result (λ read. read.1 ≡ read.0) }
         ensures err { OnErr result (Unchanged self.old self.new) }
+        ensures meets { OwnMeets self.old }
         ensures least { steps.old ≤ steps.new }
         ensures most { steps.new ≤ steps.old + 1 }
     {
@@ -66,6 +71,16 @@ impl Manager {
         }
     }
 
+    /// The schema of a table, a declared or a new one, or None where there is no table of this name.
+    pub fn schema(&self, table: &Name) -> Option<&Schema>
+        ensures { option_copied result ≡ schema_in self.now.shapes table.now }
+    {
+        match self.tables.find(table) {
+            Some(found) => Some(found.schema()),
+            None => None,
+        }
+    }
+
     // The row that a key has, or None.
     pub(crate) fn row_found<L: Ledger>(
         &self,
@@ -75,6 +90,7 @@ impl Manager {
     ) -> Result<Option<Row>, AllocError>
         requires there { IsSome (schema_in self.now.shapes table.now) }
         ensures row { IfOk result (IsThere self.now table.now key.now) }
+        ensures meets { OwnMeets self.now }
         ensures least { steps.old ≤ steps.new }
         ensures most { steps.new ≤ steps.old + 1 }
     {
@@ -84,7 +100,8 @@ impl Manager {
     // The key that a change of a table is about.
     pub(crate) fn key_found(&self, table: &Name, change: &Change) -> Result<Key, AllocError>
         requires { CanChange self.now.shapes table.now change.now }
-        ensures { IfOk result (IsKeyOf self.now.shapes table.now change.now) }
+        ensures key { IfOk result (IsKeyOf self.now.shapes table.now change.now) }
+        ensures meets { OwnMeets self.now }
     {
         match self.tables.find(table) {
             Some(found) => key_of_change(self.alloc, found, change),

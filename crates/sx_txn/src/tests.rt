@@ -1,7 +1,8 @@
 // Transactions on one table, with answers known beforehand.
-ghost use Rattle.std.specs.Prelude.{◌≡◌, ◌<◌, true, false, IsTrue, IsSome};
+ghost use Rattle.std.specs.Prelude.{◌≡◌, ◌<◌, true, false, IsTrue, IsSome, IfOk};
 ghost use Rattle.sx_txn.specs.Managed.{is_live, is_ending, schema_in};
-ghost use Rattle.sx_txn.specs.Turns.{CanChange, FitsSchema};
+ghost use Rattle.sx_txn.specs.Turns.{CanChange, CanUndo, CanUndoLast, FitsSchema};
+ghost use Rattle.sx_log.specs.Images.{FitsImage};
 
 use crate::{Change, Manager, TxnRead, TxnUndo, TxnWrite};
 use std::alloc::Global;
@@ -193,7 +194,7 @@ fn answer_to(
         Ask::Insert(q) => write(rt, alloc, manager, txn, Change::Insert(row(alloc, q)?)),
         Ask::Replace(q) => write(rt, alloc, manager, txn, Change::Replace(row(alloc, q)?)),
         Ask::Delete => write(rt, alloc, manager, txn, Change::Delete(key(alloc)?)),
-        Ask::Undo => undo(rt, manager, txn),
+        Ask::Undo => undo(rt, alloc, manager, txn),
         Ask::Commit => Ok(Told::Committed(commit(rt, manager, txn))),
     }
 }
@@ -286,8 +287,9 @@ fn write_counted<L: Ledger>(
     Ok(manager.write(txn, table, change, &mut steps)?)
 }
 
-fn undo(rt: &impl Abort, manager: &mut Manager, txn: u64) -> Result<Told, Fail> {
+fn undo(rt: &impl Abort, alloc: Global, manager: &mut Manager, txn: u64) -> Result<Told, Fail> {
     assert!(rt; manager.live(txn));
+    assert!(rt; can_undo_last(alloc, manager, txn)?);
     let answer = undo_counted::<Brand>(manager, txn, Blank::new(1))?;
     assert!(rt; manager.ending(txn) || !manager.live(txn));
     Ok(told_of_undo(answer))
@@ -298,6 +300,7 @@ fn undo_counted<L: Ledger>(manager: &mut Manager, txn: u64, blank: Blank) -> Res
     requires parts { blank.parts ≡ L.parts }
     requires some { 0 < blank.parts }
     requires live { is_live manager.old.living txn ≡ true }
+    requires can { CanUndoLast manager.old txn }
 {
     let mut steps = Steps::<L>::new(blank);
     Ok(manager.undo_one(txn, &mut steps)?)
@@ -347,29 +350,67 @@ fn is_undo(manager: &Manager, lsn: u64, write: u64, from: &Option<Row>, to: &Opt
 fn has_table(manager: &Manager, table: &Name) -> bool
     ensures { IsTrue result → IsSome (schema_in manager.now.shapes table.now) }
 {
-    match manager.tables().find(table) {
-        Some(_) => true,
-        None => false,
-    }
+    manager.schema(table).is_some()
 }
 
 // Whether a table is there and admits a change.
 fn can_change(manager: &Manager, table: &Name, change: &Change) -> bool
     ensures { IsTrue result → CanChange manager.now.shapes table.now change.now }
 {
-    match manager.tables().find(table) {
-        Some(found) => fits(found, change),
+    match manager.schema(table) {
+        Some(schema) => fits(schema, change),
         None => false,
     }
 }
 
-fn fits(table: &Table, change: &Change) -> bool
-    ensures { IsTrue result → FitsSchema table.now.schema change.now }
+fn fits(schema: &Schema, change: &Change) -> bool
+    ensures { IsTrue result → FitsSchema schema.now change.now }
 {
     match change {
-        Change::Insert(row) => table.schema().admits(row).is_ok(),
-        Change::Replace(row) => table.schema().admits(row).is_ok(),
+        Change::Insert(row) => schema.admits(row).is_ok(),
+        Change::Replace(row) => schema.admits(row).is_ok(),
         Change::Delete(_) => true,
+    }
+}
+
+// Whether the last write that is left of a live transaction, if there is one, can be undone.
+fn can_undo_last(alloc: Global, manager: &Manager, txn: u64) -> Result<bool, Fail>
+    requires { is_live manager.now.living txn ≡ true }
+    ensures { IfOk result (λ can. IsTrue can → CanUndoLast manager.now txn) }
+{
+    match manager.last_left(txn) {
+        Some(lsn) => can_undo(alloc, manager, txn, lsn),
+        None => Ok(true),
+    }
+}
+
+// Whether the record of this LSN is a transaction's write to a table that is there, whose image before can be put back.
+fn can_undo(alloc: Global, manager: &Manager, txn: u64, lsn: u64) -> Result<bool, Fail>
+    ensures { IfOk result (λ can. IsTrue can → CanUndo manager.now.log manager.now.shapes txn lsn) }
+{
+    let Some(record) = manager.log().at(lsn) else {
+        return Ok(false);
+    };
+    let Body::Write {
+        table, key, before, ..
+    } = &record.body
+    else {
+        return Ok(false);
+    };
+    match manager.schema(table) {
+        Some(schema) => Ok(record.txn == txn && is_row(alloc, schema, key, before)?),
+        None => Ok(false),
+    }
+}
+
+// Whether the schema admits the row, if there is one, as that of this key.
+fn is_row(alloc: Global, schema: &Schema, key: &Key, image: &Option<Row>) -> Result<bool, Fail>
+    ensures { IfOk result (λ is. IsTrue is → FitsImage schema.now key.now image.now) }
+{
+    match image {
+        Some(row) if schema.admits(row).is_ok() => Ok(schema.key_of(alloc, row)?.is_same(key)),
+        Some(_) => Ok(false),
+        None => Ok(true),
     }
 }
 

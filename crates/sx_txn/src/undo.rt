@@ -1,8 +1,8 @@
 // How writes are undone, the last one first.
 ghost use Rattle.std.specs.Prelude.{◌≡◌, ◌+◌, ◌≤◌, true, Some, IfOk, OnErr};
 ghost use Rattle.sx_log.specs.Undoing.{writes_left};
-ghost use Rattle.sx_txn.specs.Managed.{Unchanged, is_live};
-ghost use Rattle.sx_txn.specs.Turns.{Undoes};
+ghost use Rattle.sx_txn.specs.Managed.{OwnMeets, Unchanged, is_live};
+ghost use Rattle.sx_txn.specs.Turns.{Undoes, CanUndo, CanUndoLast};
 ghost use Rattle.sx_txn.specs.Writes.{first_of};
 ghost use Rattle.sx_txn.specs.Answers.{AnswersUndo};
 ghost use Rattle.sx_txn.specs.Patches.{IsBack};
@@ -20,14 +20,17 @@ use sx_steps::Steps;
 impl Manager {
     /// Undoes the last write of a transaction that is not undone, which makes it an ending one;
     /// where none is left, the transaction ends. Want of memory changes nothing.
+    #[tactic(auto, using(crate::proofs::EventLemmas::tables_stay))]
     pub fn undo_one<L: Ledger>(
         &mut self,
         txn: u64,
         steps: &mut Steps<L>,
     ) -> Result<TxnUndo, AllocError>
         requires live { is_live self.old.living txn ≡ true }
+        requires can { CanUndoLast self.old txn }
         ensures ok { IfOk result (AnswersUndo self.old self.new txn) }
         ensures err { OnErr result (Unchanged self.old self.new) }
+        ensures meets { OwnMeets self.old }
         ensures least { steps.old ≤ steps.new }
         ensures most { steps.new ≤ steps.old + 1 }
     {
@@ -44,14 +47,16 @@ impl Manager {
     }
 
     // The last write of a transaction that is not undone, if there is one.
-    fn last_left(&self, txn: u64) -> Option<u64>
+    pub(crate) fn last_left(&self, txn: u64) -> Option<u64>
         requires { is_live self.now.living txn ≡ true }
-        ensures { result ≡ first_of (writes_left txn self.now.log) }
+        ensures last { result ≡ first_of (writes_left txn self.now.log) }
+        ensures meets { OwnMeets self.now }
     {
         last_write(&self.living, txn)
     }
 
     // Undoes a transaction's last write that is not undone.
+    #[tactic(auto, using(crate::proofs::EventLemmas::tables_stay))]
     fn undo<L: Ledger>(
         &mut self,
         txn: u64,
@@ -60,6 +65,7 @@ impl Manager {
     ) -> Result<u64, AllocError>
         requires live { is_live self.old.living txn ≡ true }
         requires last { first_of (writes_left txn self.old.log) ≡ Some undoes }
+        requires can { CanUndo self.old.log self.old.shapes txn undoes }
         ensures ok { IfOk result (Undoes self.old self.new txn) }
         ensures err { OnErr result (Unchanged self.old self.new) }
         ensures least { steps.old ≤ steps.new }
@@ -70,6 +76,7 @@ impl Manager {
     }
 
     // Makes a change that undoes a write, and appends its record, whose LSN it answers.
+    #[tactic(auto, using(crate::proofs::EventLemmas::tables_stay))]
     fn put_back(&mut self, txn: u64, undoes: u64, patch: Patch) -> Result<u64, AllocError>
         requires live { is_live self.old.living txn ≡ true }
         requires last { first_of (writes_left txn self.old.log) ≡ Some undoes }
@@ -95,6 +102,7 @@ impl Manager {
     ) -> Result<Patch, AllocError>
         requires live { is_live self.now.living txn ≡ true }
         requires last { first_of (writes_left txn self.now.log) ≡ Some undoes }
+        requires can { CanUndo self.now.log self.now.shapes txn undoes }
         ensures ok { IfOk result (IsBack self.now txn undoes) }
         ensures least { steps.old ≤ steps.new }
         ensures most { steps.new ≤ steps.old + 1 }

@@ -2,7 +2,7 @@
 ghost use Rattle.std.specs.Prelude.{◌≡◌, ◌+◌, ◌≤◌, true, false, None, IfOk, OnErr};
 ghost use Rattle.sx_locks.specs.Locks.{IsLeastOther};
 ghost use Rattle.sx_locks.specs.declared.mode.Mode.TheVariants.{Exclusive};
-ghost use Rattle.sx_txn.specs.Managed.{Unchanged, is_live, is_ending};
+ghost use Rattle.sx_txn.specs.Managed.{OwnMeets, Unchanged, is_live, is_ending};
 ghost use Rattle.sx_txn.specs.Turns.{CanChange, Writes};
 ghost use Rattle.sx_txn.specs.Answers.{AnswersWrite, AnswersAt};
 ghost use Rattle.sx_txn.specs.Patches.{IsKeyOf, CanPatch, HasImage};
@@ -21,6 +21,7 @@ use sx_values::{Key, Name};
 impl Manager {
     /// Changes the row of a key and locks the key, for itself alone, to the transaction's end.
     /// Any other answer than Done changes nothing, and nor does want of memory.
+    #[tactic(auto, using(crate::proofs::EventLemmas::tables_stay))]
     pub fn write<L: Ledger>(
         &mut self,
         txn: u64,
@@ -33,6 +34,7 @@ impl Manager {
         requires change { CanChange self.old.shapes table.now change }
         ensures ok { IfOk result (AnswersWrite self.old self.new txn table.now change) }
         ensures err { OnErr result (Unchanged self.old self.new) }
+        ensures meets { OwnMeets self.old }
         ensures least { steps.old ≤ steps.new }
         ensures most { steps.new ≤ steps.old + 1 }
     {
@@ -41,6 +43,7 @@ impl Manager {
     }
 
     // Changes the row of a key.
+    #[tactic(auto, using(crate::proofs::EventLemmas::tables_stay))]
     fn write_at<L: Ledger>(
         &mut self,
         txn: u64,
@@ -64,6 +67,7 @@ impl Manager {
     }
 
     // Changes the row of a key that no other transaction has locked.
+    #[tactic(auto, using(crate::proofs::EventLemmas::tables_stay))]
     fn write_free<L: Ledger>(
         &mut self,
         txn: u64,
@@ -102,6 +106,7 @@ impl Manager {
     }
 
     // Makes a change, locks its key and appends its record, whose LSN it answers.
+    #[tactic(auto, using(crate::proofs::EventLemmas::tables_stay))]
     fn put(&mut self, txn: u64, patch: Patch) -> Result<u64, AllocError>
         requires live { is_live self.old.living txn ≡ true }
         requires can { CanPatch self.old patch }

@@ -1,5 +1,5 @@
 -- The steps of a catalog: a table more, and an index more.
-use Rattle.std.proofs.Common.{◌≡◌, ◌≤◌, ◌<◌, ◌+◌, ◌++◌, ◌&&◌, ◌||◌, ℕ, suc, Bool, true, false, not, cond, List, [], ◌∷◌, length, get_or, set, position, Option, Some, None, Result, Ok, Err, IfSome, is_some, nat_le, All, OnOk, OnErr, refl, sym, ap, ◌∙◌, subst, arith, nat_lt, if◌then◌else◌, slice_get, Bor}
+use Rattle.std.proofs.Common.{◌≡◌, ◌≤◌, ◌<◌, ◌+◌, ◌++◌, ◌&&◌, ◌||◌, ℕ, suc, Bool, true, false, not, cond, List, [], ◌∷◌, length, get_or, set, position, Option, Some, None, Result, Ok, Err, IfSome, IsTrue, is_some, nat_le, All, OnOk, OnErr, refl, sym, ap, ◌∙◌, subst, arith, nat_lt, if◌then◌else◌, slice_get, Bor}
 use Rattle.std.specs.Option.{option_copied}
 use Rattle.sx_values.proofs.KeyLaws.{same_name_tells}
 use Rattle.std.specs.List.{list_all, list_any, prefix_len, IsDistinct}
@@ -17,7 +17,7 @@ use Rattle.sx_values.specs.declared.catalog.CatalogFault.TheVariants as fault
 use Rattle.sx_values.specs.Names.{same_name}
 use Rattle.sx_values.specs.Layouts.{Layout, IsLayout}
 use Rattle.sx_values.specs.SchemaFaults.{IsDeclarable}
-use Rattle.sx_values.specs.Catalogs.{HasShortNames, declared_as, table_names, has_columns, declare_fault, table_index_fault, index_fault, with_index, indexed, IsTable, IsCatalog}
+use Rattle.sx_values.specs.Catalogs.{HasShortNames, declared_as, table_names, has_columns, declare_fault, adopt_fault, table_index_fault, index_fault, with_index, indexed, IsTable, IsCatalog}
 
 -- ---- the place of a table
 
@@ -100,13 +100,21 @@ catalog_push tables table k t e = record {
   sound = All-push IsTable tables table k.sound t;
 }
 
--- no fault of a new table: its name is new
-new_step : (o : Option Declared) (rest : Option CatalogFault) → (if is_some o then Some fault.Taken else rest) ≡ None → o ≡ None
-new_step None rest e = refl
-new_step (Some t) rest e = absurd (cc)
+-- no fault of an adopted table: its name is new
+pub adopted_name : (tables : List Declared) (name : List ℕ) → adopt_fault tables name ≡ None → declared_as tables name ≡ None
+adopted_name tables name e = by (declared_as tables name) e
+  where
+    by : (o : Option Declared) → cond (is_some o) (Some fault.Taken) None ≡ None → o ≡ None
+    by None e = refl
+    by (Some t) e = absurd (cc)
 
+-- nor of a declared one
 pub new_name : (tables : List Declared) (name : List ℕ) → declare_fault tables name ≡ None → declared_as tables name ≡ None
-new_name tables name e = new_step (declared_as tables name) (if nat_le 16 (length tables) then Some fault.Many else None) e
+new_name tables name e = by (declared_as tables name) e
+  where
+    by : (o : Option Declared) → cond (is_some o) (Some fault.Taken) (cond (nat_le 16 (length tables)) (Some fault.Many) None) ≡ None → o ≡ None
+    by None e = refl
+    by (Some t) e = absurd (cc)
 
 -- ---- an index more
 
@@ -205,5 +213,5 @@ pub no_table : (tables : List Declared) (name : List ℕ) (columns : List (List 
 no_table tables name columns e = rw (not_found tables name e) refl
 
 -- a table without indexes
-pub new_table : (name : List ℕ) (layout : Layout) (indexes : List (List (List ℕ))) → indexes ≡ [] → IsLayout layout → IsDeclarable layout → HasShortNames layout → IsTable (record { name = name; schema = layout; indexes = indexes })
-new_table name layout indexes e i d s = record { layout = i; declarable = d; short_names = s; own_columns = rw e refl }
+pub new_table : (name : List ℕ) (layout : Layout) (indexes : List (List (List ℕ))) (source : Bool) → indexes ≡ [] → IsLayout layout → (IsTrue source → IsDeclarable layout) → (IsTrue source → HasShortNames layout) → IsTable (record { name = name; schema = layout; indexes = indexes; source = source })
+new_table name layout indexes source e i d s = record { layout = i; declarable = d; short_names = s; own_columns = rw e refl }

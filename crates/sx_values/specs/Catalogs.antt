@@ -35,7 +35,19 @@ has_columns layout columns = list_all (has_name (names_of layout.columns)) colum
 abbrev pub is_indexed_by : List (List ℕ) → Declared → Bool
 is_indexed_by columns table = list_any (same_names columns) table.indexes
 
--- the fault of a new table of this name, but for want of memory
+-- whether the table of this name was declared
+abbrev pub is_source : List Declared → List ℕ → Bool
+is_source tables name = elim (declared_as tables name) [ None ↦ false | Some table ↦ table.source ]
+
+-- the schema of a table that may be the source of a transformation
+abbrev pub source_schema : List Declared → List ℕ → Option Layout
+source_schema tables name = if is_source tables name then schema_of tables name else None
+
+-- the fault of a table that is adopted under this name, but for want of memory
+abbrev pub adopt_fault : List Declared → List ℕ → Option CatalogFault
+adopt_fault tables name = if is_some (declared_as tables name) then Some fault.Taken else None
+
+-- the fault of a table that is declared under this name, but for want of memory
 abbrev pub declare_fault : List Declared → List ℕ → Option CatalogFault
 declare_fault tables name =
     if is_some (declared_as tables name) then Some fault.Taken
@@ -74,14 +86,14 @@ has_index tables name columns = elim (declared_as tables name) [ None ↦ false 
 abbrev pub HasShortNames : Layout → Type 0
 HasShortNames layout = All (λ (c : Column). length c.name ≤ 30) layout.columns
 
--- a table that was declared, with indexes on columns of its own
+-- a table with indexes on columns of its own; one that was declared has few columns with short names
 pub record IsTable (table : Declared) : Type 0 where
   pub layout : IsLayout table.schema
-  pub declarable : IsDeclarable table.schema
-  pub short_names : HasShortNames table.schema
+  pub declarable : IsTrue table.source → IsDeclarable table.schema
+  pub short_names : IsTrue table.source → HasShortNames table.schema
   pub own_columns : IsTrue (list_all (has_columns table.schema) table.indexes)
 
--- declared tables whose names differ
+-- tables whose names differ
 pub record IsCatalog (tables : List Declared) : Type 0 where
   pub distinct : IsDistinct same_name (table_names tables)
   pub sound : All IsTable tables

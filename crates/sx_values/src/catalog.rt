@@ -1,11 +1,11 @@
 // The catalog of declared tables.
-ghost use Rattle.std.specs.Prelude.{◌≡◌, ◌∷◌, ◌++◌, [], OnErr, OnOk, IfSome, position};
+ghost use Rattle.std.specs.Prelude.{◌≡◌, ◌∷◌, ◌++◌, [], OnErr, OnOk, IfSome, IsTrue, None, true, false, position};
 ghost use Rattle.std.specs.List.{list_all};
 ghost use Rattle.std.specs.Option.{option_copied};
 ghost use Rattle.sx_lists.specs.Answers.{RefusesBy};
 ghost use Rattle.sx_values.specs.Names.{same_name, has_name};
 ghost use Rattle.sx_values.specs.SchemaFaults.{IsDeclarable, names_of};
-ghost use Rattle.sx_values.specs.Catalogs.{declared_as, schema_of, declare_fault, table_index_fault, index_fault, with_index, indexed, is_indexed_by, has_index, HasShortNames, IsCatalog};
+ghost use Rattle.sx_values.specs.Catalogs.{declared_as, schema_of, declare_fault, adopt_fault, is_source, table_index_fault, index_fault, with_index, indexed, is_indexed_by, has_index, HasShortNames, IsCatalog};
 
 use crate::checks::has_name;
 use crate::{Column, Name, Names, Schema};
@@ -20,6 +20,8 @@ pub struct Declared {
     pub schema: Schema,
     /// The columns of each index, by name.
     pub indexes: List<Names>,
+    /// Whether it was declared. Only then may it be the source of a transformation.
+    pub source: bool,
 }
 
 /// Why a table or an index isn't put into a catalog.
@@ -36,7 +38,7 @@ pub enum CatalogFault {
     NoColumn,
 }
 
-/// The declared tables, in the order in which they were declared.
+/// The tables that were declared or adopted, in the order in which they were put in.
 #[derive(Debug, Drop)]
 pub struct Catalog {
     alloc: Global,
@@ -66,16 +68,47 @@ impl Catalog {
         }
     }
 
-    /// Puts a table at the end, without indexes. A refusal changes nothing.
+    /// Declares a table at the end, without indexes. A refusal changes nothing.
     pub fn declare(&mut self, name: Name, schema: Schema) -> Result<(), CatalogFault>
         requires declarable { IsDeclarable schema }
         requires short_names { HasShortNames schema }
         ensures fault { RefusesBy (declare_fault self.old name) CatalogFault.Memory result }
         ensures ok { OnOk result (self.new ≡ self.old
-            ++ record { name = name; schema = schema; indexes = [] } ∷ []) }
+            ++ record { name = name; schema = schema; indexes = []; source = true } ∷ []) }
         ensures err { OnErr result (self.new ≡ self.old) }
     {
-        if let Some(fault) = fault_of_table(&self.tables, &name) {
+        let fault = fault_of_declared(&self.tables, &name);
+        self.put_unless(fault, name, schema, true)
+    }
+
+    /// Puts in a table that isn't declared, with any schema: a new table of a transformation. A refusal changes nothing.
+    pub fn adopt(&mut self, name: Name, schema: Schema) -> Result<(), CatalogFault>
+        ensures fault { RefusesBy (adopt_fault self.old name) CatalogFault.Memory result }
+        ensures ok { OnOk result (self.new ≡ self.old
+            ++ record { name = name; schema = schema; indexes = []; source = false } ∷ []) }
+        ensures err { OnErr result (self.new ≡ self.old) }
+    {
+        let fault = fault_of_adopted(&self.tables, &name);
+        self.put_unless(fault, name, schema, false)
+    }
+
+    // Puts a table at the end, without indexes, where nothing is at fault. A refusal changes nothing.
+    fn put_unless(
+        &mut self,
+        fault: Option<CatalogFault>,
+        name: Name,
+        schema: Schema,
+        source: bool,
+    ) -> Result<(), CatalogFault>
+        requires new_name { fault ≡ None → declared_as self.old name ≡ None }
+        requires declarable { IsTrue source → IsDeclarable schema }
+        requires short_names { IsTrue source → HasShortNames schema }
+        ensures fault { RefusesBy fault CatalogFault.Memory result }
+        ensures ok { OnOk result (self.new ≡ self.old
+            ++ record { name = name; schema = schema; indexes = []; source = source } ∷ []) }
+        ensures err { OnErr result (self.new ≡ self.old) }
+    {
+        if let Some(fault) = fault {
             return Err(fault);
         }
         let indexes = List::new(self.alloc);
@@ -83,6 +116,7 @@ impl Catalog {
             name,
             schema,
             indexes,
+            source,
         };
         let Ok(()) = self.tables.push(table) else {
             return Err(CatalogFault::Memory);
@@ -117,6 +151,16 @@ impl Catalog {
         match table_of(&self.tables, name) {
             Some(table) => Some(&table.schema),
             None => None,
+        }
+    }
+
+    /// Whether the table of this name was declared, and so may be the source of a transformation.
+    pub fn is_source(&self, name: &Name) -> bool
+        ensures { result ≡ is_source self.now name.now }
+    {
+        match table_of(&self.tables, name) {
+            Some(table) => table.source,
+            None => false,
         }
     }
 
@@ -169,17 +213,27 @@ fn table_of<'a>(tables: &'a [Declared], name: &Name) -> Option<&'a Declared>
     }
 }
 
-// The fault of a new table of this name, but for want of memory.
-fn fault_of_table(tables: &[Declared], name: &Name) -> Option<CatalogFault>
+// The fault of a table to be declared under this name, but for want of memory.
+fn fault_of_declared(tables: &[Declared], name: &Name) -> Option<CatalogFault>
     ensures { result ≡ declare_fault tables.now name.now }
 {
-    if table_of(tables, name).is_some() {
-        return Some(CatalogFault::Taken);
+    if let Some(fault) = fault_of_adopted(tables, name) {
+        return Some(fault);
     }
     if tables.len() >= 16 {
         return Some(CatalogFault::Many);
     }
     None
+}
+
+// The fault of a table to be adopted under this name, but for want of memory.
+fn fault_of_adopted(tables: &[Declared], name: &Name) -> Option<CatalogFault>
+    ensures { result ≡ adopt_fault tables.now name.now }
+{
+    match table_of(tables, name) {
+        Some(_) => Some(CatalogFault::Taken),
+        None => None,
+    }
 }
 
 // Puts an index on these columns behind a table's others. A refusal changes nothing.

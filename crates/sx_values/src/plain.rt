@@ -93,6 +93,7 @@ impl Copied for Declared {
             name: self.name.copy(alloc)?,
             schema: self.schema.copy(alloc)?,
             indexes: self.indexes.copy(alloc)?,
+            source: self.source,
         })
     }
 }
@@ -102,5 +103,6 @@ impl Same for Declared {
         self.name.is_same(&other.name)
             && self.schema.is_same(&other.schema)
             && self.indexes.is_same(&other.indexes)
+            && self.source == other.source
     }
 }

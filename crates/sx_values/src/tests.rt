@@ -125,6 +125,19 @@ fn tables_are_declared(rt: HostRuntime) -> Result<(), Fail> {
 }
 
 #[test]
+fn tables_are_adopted(rt: HostRuntime) -> Result<(), Fail> {
+    let alloc = rt.alloc();
+    let mut catalog = Catalog::new(alloc);
+    catalog.adopt(name(alloc, b'a')?, schema(&rt, alloc, b"abcT")?)?;
+    declare(&rt, alloc, &mut catalog, b'c')?;
+    assert!(rt; catalog.is_source(&name(alloc, b'c')?));
+    assert!(rt; !catalog.is_source(&name(alloc, b'a')?));
+    let taken = declare(&rt, alloc, &mut catalog, b'a');
+    assert_eq!(rt; taken, Err(CatalogFault::Taken));
+    Ok(())
+}
+
+#[test]
 fn tables_are_indexed(rt: HostRuntime) -> Result<(), Fail> {
     let alloc = rt.alloc();
     let mut catalog = Catalog::new(alloc);

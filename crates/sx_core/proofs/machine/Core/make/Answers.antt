@@ -11,6 +11,7 @@ pub invariant_of-result : goal.invariant_of-result
 invariant_of-result c =
     let new : IsNew c.new.result c.in_ok-tables.field-0 = record {
       shapes = c.new.ensures.shapes;
+      own = c.new.ensures.own;
       log = c.new.ensures.log;
       locks = c.new.ensures.locks;
       living = c.new.ensures.living;

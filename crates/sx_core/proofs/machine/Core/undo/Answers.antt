@@ -4,6 +4,7 @@ use Rattle.sx_journal.specs.declared.entry.Reply.TheVariants as reply
 use Rattle.sx_txn.specs.Answers.{AnswersUndo}
 use Rattle.sx_core.proofs.TurnLemmas.{fields, Holds, live_there, client_right}
 use Rattle.sx_core.proofs.ClientLemmas.{client_entry, Beside, fewer_there, undone_took, aborted_took}
+use Rattle.sx_core.proofs.UndoLemmas.{can_undo}
 use Rattle.sx_core.proofs.machine.Core.undo.Goals as goal
 
 pub undo_one-requires : goal.undo_one-requires
@@ -11,7 +12,7 @@ undo_one-requires g c =
     let i = c.self.inside in
     let f = fields i.manager i.journal.spare i.clients.newest i.new_tables i.phase i.spec i.cursor in
     let holds : Holds i.catalog i.loads i.journal.newest f c.args.self.now = record { within = c.self.invariant.0; kept = c.self.invariant.1; view = c.self.view_is } in
-    record { live = live_there i.catalog i.loads i.journal.newest f c.args.self.now c.args.actor c.args.txn holds c.requires.inside }
+    record { live = live_there i.catalog i.loads i.journal.newest f c.args.self.now c.args.actor c.args.txn holds c.requires.inside; can = can_undo i.catalog i.loads i.journal.newest f c.args.self.now c.args.txn holds }
 
 pub invariant_of-self-in-Undone : goal.invariant_of-self-in-Undone
 invariant_of-self-in-Undone g c =
@@ -22,7 +23,7 @@ invariant_of-self-in-Undone g c =
     let room : length i.clients.newest ≤ c.append.new.self.spare = omega (arith, c.in_ok-reserve.ensures.room, c.append.ensures.room, c.room_and.ensures) in
     let beside : Beside f g = record { new_tables = refl; now = refl; room = room } in
     let longer = c.append.ensures.item ∙ ap (λ l. client_entry c.args.actor request.Undo (reply.Undone c.in-Undone.lsn) ∷ l) c.reserve.ensures.items in
-    let t = undone_took i.catalog i.loads i.journal.newest c.append.new.self.newest f g c.args.self.now c.args.actor c.args.txn c.in-Undone.lsn holds c.requires.comes c.requires.place c.requires.inside (subst (AnswersUndo i.manager c.undo_one.new.self c.args.txn) c.in-Undone.is c.in_ok-lsn.ensures.ok) refl beside longer in
+    let t = undone_took i.catalog i.loads i.journal.newest c.append.new.self.newest f g c.args.self.now c.args.actor c.args.txn c.in-Undone.lsn holds c.requires.comes c.requires.place c.requires.inside c.in_ok-lsn.ensures.meets (can_undo i.catalog i.loads i.journal.newest f c.args.self.now c.args.txn holds) (subst (AnswersUndo i.manager c.undo_one.new.self c.args.txn) c.in-Undone.is c.in_ok-lsn.ensures.ok) refl beside longer in
     (t.within, t.kept)
 
 pub returns-in-Undone : goal.returns-in-Undone
@@ -34,7 +35,7 @@ returns-in-Undone g c =
     let room : length i.clients.newest ≤ c.append.new.self.spare = omega (arith, c.in_ok-reserve.ensures.room, c.append.ensures.room, c.room_and.ensures) in
     let beside : Beside f g = record { new_tables = refl; now = refl; room = room } in
     let longer = c.append.ensures.item ∙ ap (λ l. client_entry c.args.actor request.Undo (reply.Undone c.in-Undone.lsn) ∷ l) c.reserve.ensures.items in
-    let t = undone_took i.catalog i.loads i.journal.newest c.append.new.self.newest f g c.args.self.now c.args.actor c.args.txn c.in-Undone.lsn holds c.requires.comes c.requires.place c.requires.inside (subst (AnswersUndo i.manager c.undo_one.new.self c.args.txn) c.in-Undone.is c.in_ok-lsn.ensures.ok) refl beside longer in
+    let t = undone_took i.catalog i.loads i.journal.newest c.append.new.self.newest f g c.args.self.now c.args.actor c.args.txn c.in-Undone.lsn holds c.requires.comes c.requires.place c.requires.inside c.in_ok-lsn.ensures.meets (can_undo i.catalog i.loads i.journal.newest f c.args.self.now c.args.txn holds) (subst (AnswersUndo i.manager c.undo_one.new.self c.args.txn) c.in-Undone.is c.in_ok-lsn.ensures.ok) refl beside longer in
     (client_right _ _ c.args.actor request.Undo (reply.Undone c.in-Undone.lsn) t.turns, t.turns)
 
 pub invariant_of-self-in-Aborted : goal.invariant_of-self-in-Aborted

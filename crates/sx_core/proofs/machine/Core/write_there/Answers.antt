@@ -54,7 +54,7 @@ invariant_of-self-2 g c =
     let good = change_good (schema_of i.catalog c.args.table) c.args.change admitted in
     let g = fields c.write.new.self c.append.new.self.spare i.clients.newest i.new_tables i.phase i.spec i.cursor in
     let asks : AsksChange i.catalog i.loads i.journal.newest f c.args.self.now c.args.actor c.args.txn c.args.table c.args.change =
-    record { holds = holds; comes = c.requires.comes; place = c.requires.place; in_txn = c.requires.inside; good = good } in
+    record { holds = holds; comes = c.requires.comes; place = c.requires.place; in_txn = c.requires.inside; own = c.in_ok-answer.ensures.meets; good = good } in
     let room : length i.clients.newest ≤ c.append.new.self.spare = omega (arith, c.in_ok-reserve.ensures.room, c.append.ensures.room, c.room_and.ensures) in
     let beside : Beside f g = record { new_tables = refl; now = refl; room = room } in
     let longer = c.append.ensures.item ∙ ap (λ q. client_entry c.args.actor q c.write_told.result ∷ c.reserve.new.self.newest) (c.asked_for.ensures ∙ ap (asked_for c.args.table) c.in_ok-asked.ensures)
@@ -72,7 +72,7 @@ returns g c =
     let good = change_good (schema_of i.catalog c.args.table) c.args.change admitted in
     let g = fields c.write.new.self c.append.new.self.spare i.clients.newest i.new_tables i.phase i.spec i.cursor in
     let asks : AsksChange i.catalog i.loads i.journal.newest f c.args.self.now c.args.actor c.args.txn c.args.table c.args.change =
-    record { holds = holds; comes = c.requires.comes; place = c.requires.place; in_txn = c.requires.inside; good = good } in
+    record { holds = holds; comes = c.requires.comes; place = c.requires.place; in_txn = c.requires.inside; own = c.in_ok-answer.ensures.meets; good = good } in
     let room : length i.clients.newest ≤ c.append.new.self.spare = omega (arith, c.in_ok-reserve.ensures.room, c.append.ensures.room, c.room_and.ensures) in
     let beside : Beside f g = record { new_tables = refl; now = refl; room = room } in
     let longer = c.append.ensures.item ∙ ap (λ q. client_entry c.args.actor q c.write_told.result ∷ c.reserve.new.self.newest) (c.asked_for.ensures ∙ ap (asked_for c.args.table) c.in_ok-asked.ensures)

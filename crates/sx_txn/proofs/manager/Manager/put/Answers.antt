@@ -1,25 +1,33 @@
-use Rattle.std.proofs.Common.{◌≡◌, ◌≤◌, ◌+◌, ◌∷◌, ◌∙◌, length, arith, ap, map, ℕ, subst, List}
+use Rattle.std.proofs.Common.{◌≡◌, ◌≤◌, ◌+◌, ◌∷◌, ◌∙◌, length, arith, ap, map, refl, sym, ℕ, subst, List}
 use Rattle.sx_txn.specs.declared.lives.Live.{Live}
 use Rattle.sx_log.specs.declared.record.Rec.{Rec}
 use Rattle.sx_txn.specs.Lives.{kept_all, with_write}
 use Rattle.sx_txn.specs.Patches.{Patched}
 use Rattle.sx_txn.proofs.ManagedLemmas.{length-kept}
 use Rattle.sx_txn.proofs.PatchLemmas.{on_err}
-use Rattle.sx_txn.proofs.EventLemmas.{managed-same, unchanged}
+use Rattle.sx_txn.proofs.EventLemmas.{managed-same, unchanged, tables_stay, same_locks-refl}
 use Rattle.sx_txn.proofs.PutLemmas.{takes_patch, managed-written, written, seated}
 use Rattle.sx_txn.proofs.manager.Manager.put.Goals as goal
 
 pub put_locked-requires-clause-takes : goal.put_locked-requires-clause-takes
 put_locked-requires-clause-takes c =
     let i = c.self.inside in
-    takes_patch i.tables i.log i.locks (kept_all i.living.items) i.begun c.args.self.now c.args.patch c.self.view_is c.self.invariant c.requires.can
+    takes_patch i.tables i.log i.locks (kept_all i.living.items) i.begun c.args.self.now c.args.patch c.self.view_is c.requires.can
+
+pub returns-in_err-make_room-clause-err : goal.returns-in_err-make_room-clause-err
+returns-in_err-make_room-clause-err c =
+    let i = c.self.inside in
+    let long : length c.make_room.new.living ≡ i.living.len = omega arith in
+    let lives = seated i.living.len c.make_room.new.living _ long ∙ c.make_room.ensures.same ∙ ap kept_all c.deref_mut.ensures.value in
+    on_err c.from_residual-in_err-make_room.result _
+    (unchanged i.tables i.tables i.log c.make_room.new.log i.locks i.locks (kept_all i.living.items) _ i.begun c.args.self.now c.self.view_is refl (tables_stay i.tables.all) c.make_room.ensures.records (same_locks-refl i.locks) lives)
 
 pub invariant_of-self-in_err-put_locked : goal.invariant_of-self-in_err-put_locked
 invariant_of-self-in_err-put_locked c =
     let i = c.self.inside in
     let long : length c.make_room.new.living ≡ i.living.len = omega arith in
     let lives = seated i.living.len c.make_room.new.living _ long ∙ c.make_room.ensures.same ∙ ap kept_all c.deref_mut.ensures.value in
-    managed-same i.tables c.put_locked.new.tables i.log c.make_room.new.log (kept_all i.living.items) _ i.begun c.self.invariant c.in_err-put_locked.ensures.same_rows c.make_room.ensures.records c.make_room.ensures.no_less lives
+    managed-same i.tables c.put_locked.new.tables i.log c.make_room.new.log (kept_all i.living.items) _ i.begun c.self.invariant (sym c.put_locked.ensures.own) c.in_err-put_locked.ensures.same_rows c.make_room.ensures.records c.make_room.ensures.no_less lives
 
 pub returns-in_err-put_locked-clause-err : goal.returns-in_err-put_locked-clause-err
 returns-in_err-put_locked-clause-err c =
@@ -27,7 +35,7 @@ returns-in_err-put_locked-clause-err c =
     let long : length c.make_room.new.living ≡ i.living.len = omega arith in
     let lives = seated i.living.len c.make_room.new.living _ long ∙ c.make_room.ensures.same ∙ ap kept_all c.deref_mut.ensures.value in
     on_err c.from_residual-in_err-put_locked.result _
-    (unchanged i.tables c.put_locked.new.tables i.log c.make_room.new.log i.locks c.put_locked.new.locks (kept_all i.living.items) _ i.begun c.args.self.now c.self.view_is c.in_err-put_locked.ensures.same_rows c.make_room.ensures.records c.in_err-put_locked.ensures.same_locks lives)
+    (unchanged i.tables c.put_locked.new.tables i.log c.make_room.new.log i.locks c.put_locked.new.locks (kept_all i.living.items) _ i.begun c.args.self.now c.self.view_is (sym c.put_locked.ensures.own) c.in_err-put_locked.ensures.same_rows c.make_room.ensures.records c.in_err-put_locked.ensures.same_locks lives)
 
 pub invariant_of-self-2 : goal.invariant_of-self-2
 invariant_of-self-2 c =
@@ -41,8 +49,8 @@ invariant_of-self-2 c =
     let lives = seated i.living.len c.note_write.new.living _ longer ∙ c.note_write.ensures ∙ ap (λ (l : List Live). map (with_write c.args.txn c.next_lsn-lsn.result) (kept_all l)) c.deref_mut-2.ensures.value
     ∙ ap (map (with_write c.args.txn c.next_lsn-lsn.result)) room_lives ∙ ap (λ (n : ℕ). map (with_write c.args.txn n) kept) lsn in
     let newest = c.append.ensures.item ∙ ap (λ (l : List Rec). c.into_write.result ∷ l) c.make_room.ensures.records ∙ ap (λ (r : Rec). r ∷ i.log.newest) c.into_write.ensures in
-    let patched = subst (λ (n : ℕ). Patched i.tables c.put_locked.new.tables c.args.patch n) lsn c.in_ok-put_locked.ensures.rows in
-    managed-written i.tables c.put_locked.new.tables i.log c.append.new.self i.locks kept _ i.begun c.args.txn c.args.self.now c.args.patch c.self.view_is c.self.invariant c.requires.live c.requires.can
+    let patched = subst (λ (n : ℕ). Patched i.tables.all c.put_locked.new.tables.all c.args.patch n) lsn c.in_ok-put_locked.ensures.rows in
+    managed-written i.tables c.put_locked.new.tables i.log c.append.new.self i.locks kept _ i.begun c.args.txn c.args.self.now c.args.patch c.self.view_is c.self.invariant c.requires.live c.requires.can c.put_locked.ensures.own
     patched newest room lives
 
 pub returns-clause-ok : goal.returns-clause-ok
@@ -56,6 +64,6 @@ returns-clause-ok c =
     let lives = seated i.living.len c.note_write.new.living _ longer ∙ c.note_write.ensures ∙ ap (λ (l : List Live). map (with_write c.args.txn c.next_lsn-lsn.result) (kept_all l)) c.deref_mut-2.ensures.value
     ∙ ap (map (with_write c.args.txn c.next_lsn-lsn.result)) room_lives ∙ ap (λ (n : ℕ). map (with_write c.args.txn n) kept) lsn in
     let newest = c.append.ensures.item ∙ ap (λ (l : List Rec). c.into_write.result ∷ l) c.make_room.ensures.records ∙ ap (λ (r : Rec). r ∷ i.log.newest) c.into_write.ensures in
-    let patched = subst (λ (n : ℕ). Patched i.tables c.put_locked.new.tables c.args.patch n) lsn c.in_ok-put_locked.ensures.rows in
-    written i.tables c.put_locked.new.tables i.log c.append.new.self i.locks c.put_locked.new.locks kept _ i.begun c.args.txn c.next_lsn-lsn.result c.args.self.now c.args.patch c.self.view_is c.requires.can c.requires.free
-    patched c.in_ok-put_locked.ensures.locked newest lsn lives
+    let patched = subst (λ (n : ℕ). Patched i.tables.all c.put_locked.new.tables.all c.args.patch n) lsn c.in_ok-put_locked.ensures.rows in
+    written i.tables c.put_locked.new.tables i.log c.append.new.self i.locks c.put_locked.new.locks kept _ i.begun c.args.txn c.next_lsn-lsn.result c.args.self.now c.args.patch c.self.view_is c.requires.can c.requires.free c.put_locked.ensures.own
+    c.in_ok-put_locked.ensures.rows c.in_ok-put_locked.ensures.locked newest lsn lives

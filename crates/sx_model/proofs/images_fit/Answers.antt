@@ -1,0 +1,5 @@
+use Rattle.sx_model.proofs.ImageLaws.{images_fit}
+use Rattle.sx_model.proofs.images_fit.Goals as goal
+
+pub returns : goal.returns
+returns c = images_fit
