@@ -17,6 +17,8 @@ fn texts_are_made(rt: HostRuntime) -> Result<(), Fail> {
     let alloc = rt.alloc();
     let text = Text::new(alloc, b" ~null")?.copy(alloc)?;
     assert_eq!(rt; text.as_bytes(), b" ~null".as_slice());
+    let none = Text::new(alloc, b"")?;
+    assert_eq!(rt; none.as_bytes(), b"".as_slice());
     let long = vec![in alloc; b'x'; 65]?;
     for (bytes, fault) in [
         (long.as_slice(), TextFault::TooLong { len: 65 }),
