@@ -8,12 +8,14 @@ use Rattle.std.proofs.lemmas.Bool.{false≢true}
 use Rattle.sx_lists.specs.Answers.{or_later}
 use Rattle.sx_values.specs.declared.value.Value.{Value}
 use Rattle.sx_values.specs.declared.catalog.Declared.{Declared}
-use Rattle.sx_values.specs.Layouts.{key_of, row_fault}
+use Rattle.sx_values.specs.declared.schema.BadRow.{BadRow as BadRowFault}
+use Rattle.sx_values.specs.Layouts.{Layout, key_of, row_fault}
 use Rattle.sx_values.specs.Names.{same_name}
 use Rattle.sx_values.specs.Catalogs.{declared_as, schema_of, table_names}
 use Rattle.sx_log.specs.declared.record.Rec.{Rec}
 use Rattle.sx_log.specs.declared.record.Load.{Load}
 use Rattle.sx_log.specs.declared.record.Body.TheVariants.{Write}
+use Rattle.sx_log.specs.Images.{FitsImages, FitsTables}
 use Rattle.sx_log.specs.State.{Stored, state_at, after_body, is_place, oldest}
 use Rattle.sx_heap.specs.declared.tables.NamedTable.{NamedTable}
 use Rattle.sx_heap.specs.Relations.{Relation, row_at}
@@ -22,7 +24,8 @@ use Rattle.sx_locks.specs.Locks.{mode_held}
 use Rattle.sx_txn.specs.Managed.{Managed, AreTables, shape_of, is_live}
 use Rattle.sx_sync.specs.declared.Phase.TheVariants.{Idle}
 use Rattle.sx_journal.specs.declared.entry.Entry.{Entry}
-use Rattle.sx_model.specs.Openings.{opening, load_record, key_in}
+use Rattle.sx_model.specs.Openings.{opening, load_record, key_in, key_under}
+use Rattle.sx_model.proofs.AllLaws.{all_reverse}
 use Rattle.sx_model.specs.Loads.{is_repeated}
 use Rattle.sx_core.specs.declared.make.MakeFault.{MakeFault}
 use Rattle.sx_core.specs.declared.make.MakeFault.TheVariants.{Memory, TooManyRows, BadRow}
@@ -214,6 +217,29 @@ loading_over catalog loads done left base loading over =
       meet = loading.meet;
     }
 
+-- ** the loaded rows fit their tables **
+
+later_none : (a b : Option MakeFault) → or_later a b ≡ None → (a ≡ None) × (b ≡ None)
+later_none None b e = (refl, e)
+later_none (Some fault) b e = absurd (cc)
+
+admitted : (place : ℕ) (fault : Option BadRowFault) → option_map (BadRow place) fault ≡ None → fault ≡ None
+admitted place None e = refl
+admitted place (Some fault) e = absurd (cc)
+
+load_fits : (catalog : List Declared) (earlier : List Load) (place : ℕ) (load : Load) (layout : Option Layout) → load_fault catalog earlier place load layout ≡ None → IsSomeAnd layout (λ l. FitsImages l (key_under layout load.row) None (Some load.row))
+load_fits catalog earlier place load None e = absurd (cc)
+load_fits catalog earlier place load (Some l) e =
+    let good = later_none (option_map (BadRow place) (row_fault l load.row)) (repeated_at place (list_any (λ other. is_repeated catalog other load) earlier)) e in
+    (tt, (admitted place (row_fault l load.row) good.0, refl))
+
+all_load_fit : (catalog : List Declared) (earlier loads : List Load) → first_load_fault catalog earlier loads ≡ None → AllByRecursion (λ (r : Rec). FitsTables (schema_of catalog) r.body) (map (load_record catalog) loads)
+unfolding FitsTables
+all_load_fit catalog earlier [] e = tt
+all_load_fit catalog earlier (load ∷ loads) e =
+    let good = later_none (load_fault catalog earlier (length earlier + 1) load (schema_of catalog load.table)) (first_load_fault catalog (earlier ++ load ∷ []) loads) e in
+    (load_fits catalog earlier (length earlier + 1) load (schema_of catalog load.table) good.0, all_load_fit catalog (earlier ++ load ∷ []) loads good.1)
+
 -- ** the machine **
 
 -- tables that meet a log have the declared names and schemas
@@ -247,7 +273,9 @@ pub made_kept : (catalog : List Declared) (rows : List Load) (base : Base) (load
 made_kept catalog rows base loads past f are new counts none nobody no_tables idle =
     let counted : loads ≡ length f.managed.log = counts ∙ ap length (sym new.log) in
     let all = all_oldest f.managed.log loads counted in
+    let fit = all_reverse (λ (r : Rec). FitsTables (schema_of catalog) r.body) (map (load_record catalog) rows) (all_load_fit catalog [] rows are.faultless) in
     let kept : IsKept (record { catalog = catalog; loads = oldest loads f.managed.log }) [] f = record {
+      loads_fit = subst (AllByRecursion (λ (r : Rec). FitsTables (schema_of catalog) r.body)) (sym (all ∙ new.log ∙ are.logged)) fit;
       legal = tt;
       manager_meets = record {
         shapes = new.shapes ∙ are_shapes catalog base.log.newest base.tables are.meet;

@@ -1,5 +1,6 @@
 -- The propagator's turns, from what the machine was to what it is: over plain variables.
-use Rattle.std.proofs.Common.{◌≡◌, ◌≤◌, ◌-◌, ◌&&◌, ◌∷◌, [], ℕ, List, length, map, filter, Option, Some, None, option_map, Bool, true, false, IfSome, IsSome, IsSomeAnd, refl, sym, ◌∙◌, ap, subst, arith, inl, if◌then◌else◌}
+use Rattle.std.proofs.Common.{◌≡◌, ◌≤◌, ◌-◌, ◌&&◌, ◌∷◌, [], ℕ, List, length, map, take, filter, Option, Some, None, option_map, Bool, true, false, IfSome, IsSome, IsSomeAnd, refl, sym, ◌∙◌, ap, subst, arith, inl, if◌then◌else◌}
+use Rattle.std.proofs.lemmas.List.{length-map, take_all}
 use Rattle.sx_values.specs.declared.value.Value.{Value}
 use Rattle.sx_values.specs.declared.catalog.Declared.{Declared}
 use Rattle.sx_values.specs.Layouts.{Layout}
@@ -12,7 +13,7 @@ use Rattle.sx_heap.specs.declared.tables.NamedTable.{NamedTable}
 use Rattle.sx_heap.specs.Relations.{Relation, IsRelation}
 use Rattle.sx_heap.specs.NamedTables.{table_named}
 use Rattle.sx_heap.specs.Walks.{WalksOn, rows_after}
-use Rattle.sx_txn.specs.Managed.{Managed, Unchanged, AreTables}
+use Rattle.sx_txn.specs.Managed.{Managed, OwnMeets, Unchanged, AreTables, shape_of}
 use Rattle.sx_txn.specs.Turns.{Notes}
 use Rattle.sx_ops.specs.declared.spec.Spec.{Spec}
 use Rattle.sx_ops.specs.declared.spec.Spec.TheVariants.{Join, Split, Part, Union}
@@ -184,11 +185,28 @@ source_there catalog log tables (Join left right on_left on_right into) meets sh
 source_there catalog log tables (Split table others dep rest dependent) meets shaped fits = absurd shaped
 source_there catalog log tables (Union left right into) meets shaped fits = absurd shaped
 
+-- what the manager lends: its declared tables
+pub record Lends (m : Managed) (lent : List NamedTable) : Type 0 where
+  pub now : lent ≡ take m.own m.tables
+  pub tables : AreTables m.log (map shape_of lent) lent
+  pub shapes : map shape_of lent ≡ take m.own m.shapes
+  pub meets : OwnMeets m
+
+-- it has no other tables
+pub lent_all : (catalog : List Declared) (loads : ℕ) (past : List Entry) (f : Fields) (m : Machine) (lent : List NamedTable) → Holds catalog loads past f m → Lends f.managed lent → lent ≡ f.managed.tables
+lent_all catalog loads past f m lent holds lends =
+    let long : length f.managed.shapes ≡ length f.managed.tables = ap length lends.meets.shapes ∙ length-map f.managed.tables shape_of in
+    let all : length f.managed.tables ≤ f.managed.own = (let own = holds.kept.manager_meets.own in omega arith) in
+    lends.now ∙ take_all f.managed.own f.managed.tables all
+
 -- the tables that the manager lends meet its log
-pub tables_there : (catalog : List Declared) (loads : ℕ) (past : List Entry) (f : Fields) (m : Machine) (lent : List NamedTable) → Holds catalog loads past f m → lent ≡ f.managed.tables → AreTables f.managed.log f.managed.shapes lent
-    → AreTables f.managed.log (shapes_of catalog) f.managed.tables
-tables_there catalog loads past f m lent holds same meet =
-    subst (AreTables f.managed.log (shapes_of catalog)) same (subst (λ shapes. AreTables f.managed.log shapes lent) holds.kept.manager_meets.shapes meet)
+pub lent_meet : (catalog : List Declared) (loads : ℕ) (past : List Entry) (f : Fields) (m : Machine) (lent : List NamedTable) → Holds catalog loads past f m → Lends f.managed lent → AreTables f.managed.log (shapes_of catalog) lent
+lent_meet catalog loads past f m lent holds lends =
+    let all : length f.managed.shapes ≤ f.managed.own = (let own = holds.kept.manager_meets.own in omega arith) in
+    subst (λ shapes. AreTables f.managed.log shapes lent) (lends.shapes ∙ take_all f.managed.own f.managed.shapes all ∙ holds.kept.manager_meets.shapes) lends.tables
+
+pub tables_there : (catalog : List Declared) (loads : ℕ) (past : List Entry) (f : Fields) (m : Machine) (lent : List NamedTable) → Holds catalog loads past f m → Lends f.managed lent → AreTables f.managed.log (shapes_of catalog) f.managed.tables
+tables_there catalog loads past f m lent holds lends = subst (AreTables f.managed.log (shapes_of catalog)) (lent_all catalog loads past f m lent holds lends) (lent_meet catalog loads past f m lent holds lends)
 
 -- while the scan is under way, its source is among the tables
 pub record ScansTable (tables : List NamedTable) (spec : Option Spec) : Type 0 where

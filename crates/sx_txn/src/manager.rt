@@ -2,7 +2,7 @@
 ghost use Rattle.std.specs.Prelude.{◌≡◌, ◌+◌, ◌≤◌, ◌<◌, ◌++◌, [], map, length, take, drop, true, false, IfOk, OnOk, OnErr};
 ghost use Rattle.std.specs.List.{AllByRecursion};
 ghost use Rattle.sx_log.specs.declared.record.Body.TheVariants.{Commit};
-ghost use Rattle.sx_txn.specs.Managed.{AreTables, Unchanged, SameBut, shape_of, is_live, is_ending};
+ghost use Rattle.sx_txn.specs.Managed.{AreTables, OwnMeets, Unchanged, SameBut, shape_of, is_live, is_ending};
 ghost use Rattle.sx_txn.specs.Turns.{Begins, Ends, Notes, IsNote};
 ghost use Rattle.sx_txn.specs.Kept.{IsEnd};
 ghost use Rattle.sx_heap.specs.NamedTables.{AreNamedApart};
@@ -139,6 +139,7 @@ impl Manager {
         ensures now { result.now ≡ take self.now.own self.now.tables }
         ensures tables { AreTables self.now.log (map shape_of result.now) result.now }
         ensures shapes { map shape_of result.now ≡ take self.now.own self.now.shapes }
+        ensures meets { OwnMeets self.now }
     {
         self.tables.own()
     }
