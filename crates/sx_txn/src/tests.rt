@@ -140,6 +140,30 @@ fn changes_are_copied(rt: HostRuntime) -> Result<(), Fail> {
     Ok(())
 }
 
+#[test]
+fn new_tables_are_written_and_handed_out(rt: HostRuntime) -> Result<(), Fail> {
+    let alloc = rt.alloc();
+    let mut manager = Manager::new(alloc, Tables::new(alloc), Log::new(alloc));
+    manager.put_new(one_table(alloc)?);
+    let turns = [
+        (1, Ask::Begin, Told::Begun(1)),
+        (1, Ask::Insert(5), Told::Done(1)),
+        (1, Ask::Replace(6), Told::Done(2)),
+        (1, Ask::Undo, Told::Undone(3)),
+        (1, Ask::Undo, Told::Undone(4)),
+        (1, Ask::Undo, Told::Aborted(5)),
+        (2, Ask::Begin, Told::Begun(2)),
+        (2, Ask::Read, Told::Absent),
+    ];
+    run(&rt, alloc, &mut manager, &turns)?;
+    let table = name(alloc)?;
+    assert!(rt; manager.tables().find(&table).is_none());
+    assert!(rt; manager.new_tables().find(&table).is_some());
+    assert!(rt; manager.take_new().find(&table).is_some());
+    assert!(rt; manager.new_tables().find(&table).is_none());
+    Ok(())
+}
+
 // What a transaction asks of key 7. A row has it and another number.
 #[derive(Clone, Copy, Debug)]
 enum Ask {
@@ -416,9 +440,13 @@ fn is_row(alloc: Global, schema: &Schema, key: &Key, image: &Option<Row>) -> Res
 
 // A manager of one empty table.
 fn manager(alloc: Global) -> Result<Manager, Fail> {
+    Ok(Manager::new(alloc, one_table(alloc)?, Log::new(alloc)))
+}
+
+fn one_table(alloc: Global) -> Result<Tables, Fail> {
     let mut tables = Tables::new(alloc);
     tables.push(name(alloc)?, Table::new(alloc, schema(alloc)?))?;
-    Ok(Manager::new(alloc, tables, Log::new(alloc)))
+    Ok(tables)
 }
 
 // A number as the key, and another.
