@@ -1,15 +1,20 @@
 -- One lock that is set, among the keys of a table and among the tables.
-use Rattle.std.proofs.Common.{◌≡◌, ◌&&◌, ◌∷◌, [], ℕ, List, Bool, true, false, Option, Some, None, refl, sym, ap, ◌∙◌, subst, cond, unwrap_or}
+use Rattle.std.proofs.Common.{◌≡◌, ◌&&◌, ◌∷◌, [], ℕ, List, Bool, true, false, Option, Some, None, refl, sym, ap, ◌∙◌, subst, cond, unwrap_or, is_some, true≢false, Less, Equal, Greater, arith}
 use Rattle.std.specs.Bool.{◌==◌}
-use Rattle.std.specs.Map.{lookup}
-use Rattle.std.specs.BTreeMap.{is_at}
-use Rattle.std.specs.Ordering.{nat_cmp}
-use Rattle.std.specs.Cmp.{Equal-is}
-use Rattle.std.specs.Cmp.Lexicographic.{slice_cmp, pointwise, lists_ties}
+use Rattle.std.specs.Map.{lookup, keys_of}
+use Rattle.std.specs.BTreeMap.{is_at, insert_entry}
+use Rattle.std.specs.Ordering.{nat_cmp, is_eq, match_ordering}
+use Rattle.std.specs.declared.cmp.Ordering.{Ordering}
+use Rattle.std.specs.List.Sorted.{IsStrictlySortedBy}
+use Rattle.std.specs.Cmp.{Equal-is, IsTotalOrder}
+use Rattle.std.specs.Cmp.Lexicographic.{slice_cmp}
+use Rattle.std.proofs.lemmas.Map.{lookup-none}
+use Rattle.std.proofs.lemmas.Map.Keys.{sorted_tail}
+use Rattle.std.proofs.lemmas.Map.Entries.{none_below_head}
 use Rattle.std.proofs.lemmas.Map.Text.{is_eq-slice_cmp}
-use Rattle.std.proofs.lemmas.Bool.{and_parts}
+use Rattle.std.proofs.lemmas.Bool.{and_parts, eq-eqb, eqb-true}
 use Rattle.sx_values.specs.declared.value.Value.{Value}
-use Rattle.sx_values.specs.Values.{value_cmp, value_eq, values_eq, values_cmp}
+use Rattle.sx_values.specs.Values.{values_eq, values_cmp}
 use Rattle.sx_values.specs.Names.{same_name}
 use Rattle.sx_values.proofs.KeyLaws.{values_tie, same_name_tells}
 use Rattle.sx_locks.specs.declared.mode.Mode.{Mode}
@@ -32,23 +37,25 @@ pub unwrap_or-cond : {X : Type 0} (b : Bool) (image other : Option X) (d : X) �
 unwrap_or-cond true image other d = refl
 unwrap_or-cond false image other d = refl
 
--- whether two keys are one, as their `==` tells
-abbrev pub key_is : List Value → List Value → Bool
-key_is key place = pointwise value_eq key place
+-- what a look-up in order found, put in its place again, changes nothing
+pub insert_entry-same : {K X : Type 0} {R : K → K → Ordering} → IsTotalOrder R → (es : List (K × X)) (k : K) (v : X) → IsStrictlySortedBy R (keys_of es) → lookup (is_at (R k)) es ≡ Some v → insert_entry R es k v ≡ es
+insert_entry-same o [] k v sorted found = absurd (true≢false (sym (ap is_some found)))
+insert_entry-same {X = X} {R = R} o (e ∷ es) k v sorted found = by (R k e.0) refl found (insert_entry-same o es k v (sorted_tail R e.0 (keys_of es) sorted))
+  where
+    by : (r : Ordering) → R k e.0 ≡ r → cond (is_eq r) (Some e.1) (lookup (is_at (R k)) es) ≡ Some v → (lookup (is_at (R k)) es ≡ Some v → insert_entry R es k v ≡ es) → match_ordering r ((k, v) ∷ e ∷ es) ((e.0, v) ∷ es) (e ∷ insert_entry R es k v) ≡ e ∷ es
+    by Less p there later = absurd (true≢false (sym (ap is_some (sym (lookup-none (is_at (R k)) es (none_below_head o k e es sorted p).1) ∙ there))))
+    by Equal p there later =
+        let same : v ≡ e.1 = cc in
+        ap (λ (x : X). (e.0, x) ∷ es) same
+    by Greater p there later = ap (λ l. e ∷ l) (later there)
 
--- `==` of keys and their order agree
-key_is-at : (key place : List Value) → key_is key place ≡ is_at (values_cmp key) place
-key_is-at key place = lists_ties {E = value_eq} value_cmp (λ v w. refl) key place
-
--- a look-up by `==` finds what one by the order finds
-pub found_by : {X : Type 0} (es : List (List Value × X)) (key : List Value) → lookup (key_is key) es ≡ lookup (is_at (values_cmp key)) es
-found_by [] key = refl
-found_by (e ∷ es) key = rw (key_is-at key e.0) (ap (cond (is_at (values_cmp key) e.0) (Some e.1)) (found_by es key))
-
--- what a map has at each key by `==`, it has by the order
-pub has_by : {X : Type 0} (old new : List (List Value × X)) (key : List Value) (image : Option X) → ((q : List Value) → lookup (key_is q) new ≡ cond (key_is key q) image (lookup (key_is q) old)) → (q : List Value) → lookup (is_at (values_cmp q)) new ≡ cond (is_at (values_cmp key) q) image (lookup (is_at (values_cmp q)) old)
-has_by old new key image h q =
-    sym (found_by new q) ∙ h q ∙ rw (key_is-at key q) (ap (cond (is_at (values_cmp key) q) image) (found_by old q))
+-- one holder where nobody was
+pub sets_one : (txn : ℕ) (mode : Mode) → SetsMode [] ((txn, mode) ∷ []) txn (Some mode)
+sets_one txn mode other = ap (λ b. cond b (Some mode) None) (swapped (other == txn) refl)
+  where
+    swapped : (b : Bool) → (other == txn) ≡ b → b ≡ (txn == other)
+    swapped true k = sym (eq-eqb txn other (sym (eqb-true other txn k)))
+    swapped false k = grind (arith, k)
 
 -- a map of holders that has something else at one key
 pub holders_at-update : (old new : KeyHolders) (key : List Value) (image : Option (List (ℕ × Mode))) → ((q : List Value) → lookup (is_at (values_cmp q)) new ≡ cond (is_at (values_cmp key) q) image (lookup (is_at (values_cmp q)) old)) → SetsHolders old new key (unwrap_or image [])

@@ -1,3 +1,4 @@
+pub mod Holding
 pub mod Locks
 pub mod Modes
 pub mod Places

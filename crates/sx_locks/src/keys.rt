@@ -6,15 +6,16 @@ ghost use Rattle.sx_locks.specs.Locks.{holders_at, mode_at, SetsLockAt};
 use crate::Mode;
 use crate::holders::Holders;
 use std::alloc::{AllocError, Global};
-use std::collections::HashMap;
+use std::collections::BTreeMap;
+use std::collections::btree_map::Entry;
 use std::marker::Model;
 use sx_lists::Copied;
 use sx_values::Key;
 
-// The holders of each key that has some, found by a hash of the key.
+// The holders of each key that has some, found by the order of keys.
 #[derive(Drop)]
 pub(crate) struct KeyLocks {
-    keys: HashMap<Key, Holders>,
+    keys: BTreeMap<Key, Holders>,
 }
 
 impl Model for KeyLocks {
@@ -31,7 +32,7 @@ impl KeyLocks {
         ensures { result ≡ [] }
     {
         KeyLocks {
-            keys: HashMap::new(alloc),
+            keys: BTreeMap::new(alloc),
         }
     }
 
@@ -68,15 +69,12 @@ impl KeyLocks {
         ensures ok { OnOk result (SetsLockAt self.old self.new txn key.now (Some (stronger (mode_at self.old txn key.now) mode))) }
         ensures err { OnErr result (self.new ≡ self.old) }
     {
-        match self.keys.get_mut(key) {
-            Some(holders) => holders.raise(txn, mode),
-            None => {
-                let key = key.copy(alloc)?;
-                let mut holders = Holders::new(alloc);
-                holders.set(txn, mode)?;
-                self.keys.insert(key, holders)?;
+        match self.keys.entry(key.copy(alloc)?)? {
+            Entry::Vacant(entry) => {
+                entry.insert(Holders::one(txn, mode));
                 Ok(None)
             }
+            Entry::Occupied(entry) => entry.into_mut().raise(alloc, txn, mode),
         }
     }
 
@@ -93,7 +91,7 @@ impl KeyLocks {
 }
 
 // Takes a transaction from the holders of a key, and answers whether none is left there.
-fn free_holder(keys: &mut HashMap<Key, Holders>, txn: u64, key: &Key) -> bool
+fn free_holder(keys: &mut BTreeMap<Key, Holders>, txn: u64, key: &Key) -> bool
     ensures freed { SetsLockAt keys.old.entries keys.new.entries txn key.now None }
     ensures bare { IsTrue result → holders_at keys.new.entries key.now ≡ [] }
 {
