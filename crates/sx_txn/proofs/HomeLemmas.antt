@@ -147,9 +147,11 @@ homed_alone own fresh homed = record { apart = front own homed.apart; few = few 
     few : (own : List NamedTable) → length own ≤ length (own ++ [])
     few [] = omega arith
     few (t ∷ own) = let rest = few own in omega arith
+
     others : (name : List ℕ) (own : List NamedTable) → AllByRecursion (λ other. same_name name other ≡ false) (names_of_tables (own ++ fresh)) → AllByRecursion (λ other. same_name name other ≡ false) (names_of_tables (own ++ []))
     others name [] all = tt
     others name (t ∷ own) all = (all.0, others name own all.1)
+
     front : (own : List NamedTable) → AreNamedApart (own ++ fresh) → AreNamedApart (own ++ [])
     front [] all = tt
     front (t ∷ own) all = (others t.name own all.0, front own all.1)

@@ -416,7 +416,10 @@ fn can_undo(alloc: Global, manager: &Manager, txn: u64, lsn: u64) -> Result<bool
         return Ok(false);
     };
     let Body::Write {
-        table, key, before, ..
+        table,
+        key,
+        before,
+        ..
     } = &record.body
     else {
         return Ok(false);

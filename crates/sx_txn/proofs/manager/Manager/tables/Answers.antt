@@ -7,13 +7,13 @@ use Rattle.sx_txn.proofs.TableLemmas.{own_alone, shapes_taken}
 use Rattle.sx_txn.proofs.manager.Manager.tables.Goals as goal
 
 pub returns-clause-tables : goal.returns-clause-tables
-returns-clause-tables c = 
+returns-clause-tables c =
     let i = c.self.inside in
     let rows = subst (λ (ts : List NamedTable). AreTables i.log.newest (map shape_of ts) ts) (sym c.own.ensures.own) (own_alone i.tables.own i.log.newest i.tables.all c.self.invariant.rows) in
     subst (λ (m : Managed). AreTables m.log (map shape_of c.own.result.now) c.own.result.now) c.self.view_is rows
 
 pub returns-clause-shapes : goal.returns-clause-shapes
-returns-clause-shapes c = 
+returns-clause-shapes c =
     let i = c.self.inside in
     ap (map shape_of) c.own.ensures.own ∙ shapes_taken i.tables.own i.tables.all ∙ ap (λ (m : Managed). take m.own m.shapes) c.self.view_is
 
