@@ -443,7 +443,9 @@ fn is_row(alloc: Global, schema: &Schema, key: &Key, image: &Option<Row>) -> Res
 
 // A manager of one empty table.
 fn manager(alloc: Global) -> Result<Manager, Fail> {
-    Ok(Manager::new(alloc, one_table(alloc)?, Log::new(alloc)))
+    let mut tables = Tables::new(alloc);
+    tables.push(name(alloc)?, Table::new(alloc, schema(alloc)?))?;
+    Ok(Manager::new(alloc, tables, Log::new(alloc)))
 }
 
 fn one_table(alloc: Global) -> Result<Tables, Fail> {
