@@ -2,7 +2,6 @@
 use Rattle.std.proofs.Common.{◌≡◌, ◌≤◌, ◌<◌, ◌+◌, ◌==◌, ◌++◌, ℕ, zero, suc, false, List, [], ◌∷◌, length, Option, Some, None, option_map, Result, Ok, Err, refl, sym, ap, ◌∙◌, subst, arith, eqb-true}
 use Rattle.std.specs.Prelude.{slice_get, take, drop, IsErrAnd}
 use Rattle.std.proofs.lemmas.Bool.Decides.{nat_tests}
-use Rattle.sx_sync.specs.declared.Phase.TheVariants.{Idle}
 use Rattle.sx_journal.specs.declared.entry.Entry.{Entry}
 use Rattle.sx_journal.specs.declared.entry.Event.{Event}
 use Rattle.sx_journal.specs.declared.entry.Event.TheVariants.{Client}
@@ -12,19 +11,18 @@ use Rattle.sx_journal.specs.declared.course.Command.{Command}
 use Rattle.sx_journal.specs.declared.course.Standing.{Standing}
 use Rattle.sx_journal.specs.declared.course.Standing.TheVariants.{AtLine, GaveUp}
 use Rattle.sx_journal.specs.Courses.{Progress, standing_after, request_of, next_at, index_of}
-use Rattle.sx_model.specs.Leaves.{phase}
-use Rattle.sx_model.specs.Legal.{Legal}
-use Rattle.sx_model.specs.Schedules.{Plan, commands_of, standing_of, next_of_lines, client_turn, first_open, open_line, least_living, turn_at, next_turn, Stepped, IsFull}
+use Rattle.sx_model.specs.Schedules.{Plan, commands_of, standing_of, next_of_lines, client_turn, first_open, open_line, next_turn, Stepped, IsFull}
 use Rattle.sx_model.proofs.TestLaws.{by_cases}
 use Rattle.sx_model.proofs.ScriptLaws.{count_of}
-use Rattle.sx_model.proofs.TurnLaws.{open_behind, none_behind, standing_own, standing_other, standing_forward, client_idle}
+use Rattle.sx_model.proofs.TurnLaws.{open_behind, none_behind, standing_own, standing_other, standing_forward}
 use Rattle.sx_core.specs.Machines.{Machine, Turns}
 use Rattle.sx_core.specs.Answers.{Fails}
 use Rattle.sx_core.specs.declared.machine.CoreFault.{CoreFault}
 use Rattle.sx_core.specs.declared.machine.CoreFault.TheVariants.{Memory, Full}
 use Rattle.shiftrun.specs.declared.lines.OwnLine.{OwnLine}
 use Rattle.shiftrun.specs.Runs.{Runs, HasStopped, ComesTo}
-use Rattle.shiftrun.specs.Lines.{progress_of, clients_of, times, own_lines, HavePassed, StandsAt, IsDue, GoesOn, IsNoted}
+use Rattle.shiftrun.specs.Lines.{progress_of, clients_of, times, own_lines, WaitsFor, HavePassed, StandsAt, IsDue, IsAhead, GoesOn, IsNoted}
+use Rattle.shiftrun.proofs.PaceLaws.{client_rests, line_next}
 use Rattle.shiftrun.proofs.PlaceLaws.{split_at, take_next, take_whole, times_own, times_other, times_count, times_all, LineAt, line_at, own_at}
 
 -- the opening of a machine and its turns go on with a turn that is the next one
@@ -35,18 +33,8 @@ turned plan old new actor event answer runs next turn = record {
   stepped = subst (Stepped plan) (sym turn.entry) (runs.stepped, next);
 }
 
--- the last entry of a machine's journal is that of the turn, and legal
-pub turned_legal : (old new : Machine) (actor : ℕ) (event : Event) (answer : Reply) → Turns old new actor event answer → Legal old.opening (record { actor = actor; event = event; reply = answer } ∷ old.past)
-turned_legal old new actor event answer turn = subst (λ p. Legal old.opening p) turn.entry (subst (λ o. Legal o new.past) turn.opening turn.legal)
-
--- a client's turn leaves the phase Idle
-pub turned_idle : (old new : Machine) (client : ℕ) (asked : Request) (answer : Reply) → Turns old new client (Client asked) answer → phase new.past ≡ Idle
-turned_idle old new client asked answer turn =
-    let e : Entry = record { actor = client; event = Client asked; reply = answer } in
-    ap phase turn.entry ∙ client_idle old.opening old.past e asked (turned_legal old new client (Client asked) answer turn) refl
-
 -- the line whose turn has come is the open one, as long as its client hasn't come past it
-due_open : (plan : Plan) (machine : Machine) (course : Progress) (line : OwnLine) (due : IsDue plan machine course line) (at : LineAt plan.lines due.done line.client) → index_of (standing_of plan line.client machine.past) ≤ line.index → open_line plan machine.past ≡ Some at.line
+pub due_open : (plan : Plan) (machine : Machine) (course : Progress) (line : OwnLine) (due : IsDue plan machine course line) (at : LineAt plan.lines due.done line.client) → index_of (standing_of plan line.client machine.past) ≤ line.index → open_line plan machine.past ≡ Some at.line
 due_open plan machine course line due at here =
     let passed : ℕ → ℕ = λ client. index_of (standing_of plan client machine.past) in
     let enough : (client : ℕ) → count_of client (take due.done plan.lines) ≤ passed client = λ client. subst (λ n. n ≤ passed client) (times_count client due.done plan.lines) (due.passed client) in
@@ -55,14 +43,14 @@ due_open plan machine course line due at here =
     let few_there : passed at.line.client ≤ count_of at.line.client (take due.done plan.lines) = subst (λ n. passed n ≤ count_of n (take due.done plan.lines)) (sym at.of_client) few in
     subst (λ lines. first_open lines passed ≡ Some at.line) (split_at plan.lines due.done at.line at.here) (open_behind (take due.done plan.lines) at.line (drop (due.done + 1) plan.lines) passed enough few_there)
 
--- so the next turn is its client's next request
-pub due_next : (plan : Plan) (machine : Machine) (course : Progress) (line : OwnLine) (asked : Request) → IsDue plan machine course line → index_of course.standing ≤ line.index → next_at course.commands course.standing ≡ Some asked → next_turn plan machine.past ≡ Some (client_turn line.client asked)
-due_next plan machine course line asked due here next =
+-- so the next turn is its client's next request, where the propagator waits for it
+pub due_next : (plan : Plan) (machine : Machine) (course : Progress) (line : OwnLine) (asked : Request) → IsAhead plan machine course line → index_of course.standing ≤ line.index → next_at course.commands course.standing ≡ Some asked → next_turn plan machine.past ≡ Some (client_turn line.client asked)
+due_next plan machine course line asked ahead here next =
+    let due = ahead.due in
     let at = line_at plan.lines due.done line.client due.here in
     let place : index_of (standing_of plan line.client machine.past) ≤ line.index = subst (λ (p : Progress). index_of p.standing ≤ line.index) due.is_course here in
-    let open_one = due_open plan machine course line due at place in
     let own_next : next_of_lines plan line.client machine.past ≡ Some asked = sym (ap (λ (p : Progress). next_at p.commands p.standing) due.is_course) ∙ next in
-    ap (λ found. turn_at plan machine.past found (least_living machine.past)) open_one
+    line_next plan machine.past at.line (ahead.waits at.line at.here) (due_open plan machine course line due at place)
     ∙ (ap (λ client. option_map (client_turn client) (next_of_lines plan client machine.past)) at.of_client
     ∙ ap (option_map (client_turn line.client)) own_next)
 
@@ -84,35 +72,41 @@ has_next commands (GaveUp index) within none = cc
 pub goes_by : (plan : Plan) (e : Entry) (past : List Entry) → GoesOn plan e.actor past (e ∷ past)
 goes_by plan e past = record {
   forward = λ other. standing_forward plan other e past;
-  others = λ other differs. standing_other plan other e past (let swapped : (e.actor == other) ≡ false = grind (arith, nat_tests) in swapped);
+  others = λ other one differs. standing_other plan other e past (let swapped : (e.actor == other) ≡ false = grind (arith, nat_tests) in swapped);
 }
 
 pub goes_nowhere : (plan : Plan) (client : ℕ) (past : List Entry) → GoesOn plan client past past
-goes_nowhere plan client past = record { forward = λ other. omega arith; others = λ other differs. refl }
+goes_nowhere plan client past = record { forward = λ other. omega arith; others = λ other one differs. refl }
 
 pub goes_further : (plan : Plan) (client : ℕ) (before between after : List Entry) → GoesOn plan client before between → GoesOn plan client between after → GoesOn plan client before after
 goes_further plan client before between after one two = record {
   forward = λ other. (let h = one.forward other in let more = two.forward other in omega arith);
-  others = λ other differs. two.others other differs ∙ one.others other differs;
+  others = λ other from differs. two.others other from differs ∙ one.others other from differs;
 }
 
 -- the lines that were passed stay so
 pub still_passed : (plan : Plan) (client done : ℕ) (before after : List Entry) → GoesOn plan client before after → HavePassed plan done before → HavePassed plan done after
 still_passed plan client done before after goes passed = λ other. (let h = passed other in let more = goes.forward other in omega arith)
 
--- a client's request that was noted leaves the line due
+-- a client's request that was noted leaves the line due, and the propagator waiting
 pub noted_due : (plan : Plan) (old new : Machine) (before after : Progress) (line : OwnLine) (asked : Request)
-    → IsDue plan old before line → index_of before.standing ≤ line.index → next_at before.commands before.standing ≡ Some asked → IsNoted old new before after line.client asked
-    → IsDue plan new after line
-noted_due plan old new before after line asked due here next noted = record {
-  runs = turned plan old new line.client (Client asked) noted.reply due.runs (due_next plan old before line asked due here next) noted.turn;
-  is_course = course;
-  done = due.done;
-  here = due.here;
-  index = due.index;
-  passed = still_passed plan line.client due.done old.past new.past goes due.passed;
+    → 1 ≤ line.client → IsAhead plan old before line → index_of before.standing ≤ line.index → next_at before.commands before.standing ≡ Some asked → IsNoted old new before after line.client asked
+    → IsAhead plan new after line
+noted_due plan old new before after line asked one ahead here next noted = record {
+  due = record {
+    runs = turned plan old new line.client (Client asked) noted.reply due.runs (due_next plan old before line asked ahead here next) noted.turn;
+    is_course = course;
+    done = due.done;
+    here = due.here;
+    index = due.index;
+    passed = still_passed plan line.client due.done old.past new.past goes due.passed;
+  };
+  waits = λ l at. subst (WaitsFor (Some l.command.line)) (sym (client_rests plan old new line.client asked noted.reply one noted.turn).left) (ahead.waits l at);
 }
   where
+    due : IsDue plan old before line
+    due = ahead.due
+
     e : Entry
     e = record { actor = line.client; event = Client asked; reply = noted.reply }
 

@@ -1,5 +1,5 @@
 -- The rollbacks behind the lines, in the order of the clients' numbers.
-use Rattle.std.proofs.Common.{◌≡◌, ◌<◌, ◌+◌, ◌==◌, ℕ, true, false, Option, Some, None, refl, ap, ◌∙◌, subst, arith}
+use Rattle.std.proofs.Common.{◌≡◌, ◌≤◌, ◌<◌, ◌+◌, ◌==◌, ℕ, true, false, Option, Some, None, refl, ap, ◌∙◌, subst, arith}
 use Rattle.std.specs.Prelude.{is_some, nat_lt}
 use Rattle.std.proofs.lemmas.Bool.Decides.{nat_tests}
 use Rattle.sx_journal.specs.declared.entry.Entry.{Entry}
@@ -14,7 +14,8 @@ use Rattle.sx_model.proofs.TurnLaws.{stay_over, txn_other, undo_next, nobody_liv
 use Rattle.sx_model.proofs.FinishLaws.{no_change_next}
 use Rattle.sx_core.specs.Machines.{Machine, Turns}
 use Rattle.shiftrun.specs.Runs.{HasRunLines, HasRolledBack, HasRun, HasStopped}
-use Rattle.shiftrun.proofs.LineLaws.{turned, turned_idle, stops}
+use Rattle.shiftrun.proofs.PaceLaws.{client_rests}
+use Rattle.shiftrun.proofs.LineLaws.{turned, stops}
 
 -- a machine behind the lines in which no client below this one lives
 pub record HasRolled (plan : Plan) (client : ℕ) (machine : Machine) : Type 0 where
@@ -41,15 +42,15 @@ lives_none (Some n) e = absurd (cc)
 pub roll_turn : (plan : Plan) (client : ℕ) (machine : Machine) → HasRolled plan client machine → is_some (txn_of machine.past client) ≡ true → next_turn plan machine.past ≡ Some (client_turn client Undo)
 roll_turn plan client machine has lives =
     let txn = lives_some (txn_of machine.past client) lives in
-    undo_next plan machine.past client txn.0 has.lines.worked txn.1 has.below
+    undo_next plan machine.past client txn.0 has.lines.worked has.lines.passed txn.1 has.below
 
 -- and its Undo goes on with the rollbacks
-pub roll_on : (plan : Plan) (client : ℕ) (old new : Machine) (answer : Reply) → HasRolled plan client old → is_some (txn_of old.past client) ≡ true → Turns old new client (Client Undo) answer → HasRolled plan client new
-roll_on plan client old new answer has lives turn = record {
+pub roll_on : (plan : Plan) (client : ℕ) (old new : Machine) (answer : Reply) → 1 ≤ client → HasRolled plan client old → is_some (txn_of old.past client) ≡ true → Turns old new client (Client Undo) answer → HasRolled plan client new
+roll_on plan client old new answer one has lives turn = record {
   lines = record {
     runs = turned plan old new client (Client Undo) answer has.lines.runs (roll_turn plan client old has lives) turn;
     worked = ap (open_line plan) turn.entry ∙ stay_over plan e old.past has.lines.worked;
-    idle = turned_idle old new client Undo answer turn;
+    passed = (client_rests plan old new client Undo answer one turn).left ∙ has.lines.passed;
   };
   below = λ other less.
       let differs : (client == other) ≡ false = grind (arith, nat_tests) in
@@ -80,5 +81,5 @@ pub lines_end : (plan : Plan) (machine : Machine) → HasRolledBack plan machine
 lines_end plan machine has none = record {
   runs = has.lines.runs;
   rest = has.rest;
-  complete = complete_at_end plan machine.past has.lines.runs.stepped (no_change_next plan machine.past has.lines.worked has.rest none) (λ draining. let idle = has.lines.idle in cc);
+  complete = complete_at_end plan machine.past has.lines.runs.stepped (no_change_next plan machine.past has.lines.worked has.lines.passed has.rest none);
 }

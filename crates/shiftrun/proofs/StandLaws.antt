@@ -1,5 +1,5 @@
 -- The clients' courses beside the machine, line by line.
-use Rattle.std.proofs.Common.{◌≡◌, ◌≢◌, ◌≤◌, ◌<◌, ◌+◌, ◌-◌, ◌==◌, ◌++◌, ℕ, zero, suc, true, false, List, [], ◌∷◌, length, get_or, reverse, Some, refl, sym, ap, ◌∙◌, subst, arith, eqb-true}
+use Rattle.std.proofs.Common.{◌≡◌, ◌≢◌, ◌≤◌, ◌<◌, ◌+◌, ◌-◌, ◌==◌, ◌++◌, ℕ, zero, suc, true, false, List, [], ◌∷◌, length, get_or, reverse, Some, None, refl, sym, ap, ◌∙◌, subst, arith, eqb-true}
 use Rattle.std.specs.Prelude.{slice_get, take, filter}
 use Rattle.std.specs.List.{AllByRecursion}
 use Rattle.std.proofs.Math.ListN.{set}
@@ -15,17 +15,16 @@ use Rattle.sx_journal.specs.declared.course.Standing.{Standing}
 use Rattle.sx_journal.specs.declared.course.Command.{Command}
 use Rattle.sx_journal.specs.Courses.{Progress, standing_after, index_of}
 use Rattle.sx_model.specs.Legal.{Legal}
-use Rattle.sx_model.specs.Schedules.{Plan, Line, opening_of, commands_of}
+use Rattle.sx_model.specs.Schedules.{Plan, Line, opening_of, commands_of, open_line}
 use Rattle.sx_model.proofs.TestLaws.{by_cases}
 use Rattle.sx_model.proofs.ScriptLaws.{count_of}
 use Rattle.sx_model.proofs.TurnLaws.{legal_bounded}
 use Rattle.sx_script.specs.Sound.{IsClients}
 use Rattle.sx_core.specs.Machines.{Machine, Turns}
 use Rattle.shiftrun.specs.declared.lines.OwnLine.{OwnLine}
-use Rattle.shiftrun.specs.Runs.{HasRunLines}
-use Rattle.shiftrun.specs.Lines.{progress_of, clients_of, times, own_lines, AreCourses, StandsAt, IsPassed, IsNoted}
+use Rattle.shiftrun.specs.Lines.{progress_of, clients_of, times, own_lines, AreCourses, StandsAt, IsDue, IsPassed, IsNoted}
 use Rattle.shiftrun.proofs.PlaceLaws.{times_within, times_all, own_at, own_lines_length, line_at, all_at}
-use Rattle.shiftrun.proofs.LineLaws.{passed_next, all_passed}
+use Rattle.shiftrun.proofs.LineLaws.{due_at, passed_next, all_passed}
 
 -- items in front, and one behind them
 front_item : {T : Type 0} (xs : List T) (x : T) (k : ℕ) → k < length xs → slice_get (xs ++ x ∷ []) k ≡ slice_get xs k
@@ -86,7 +85,6 @@ pub stands_next : (plan : Plan) (k : ℕ) (old new : Machine) (courses : List Pr
     → StandsAt plan (k + 1) new (set courses (line.client - 1) course)
 stands_next plan k old new courses line course stands here from to passed = record {
   runs = passed.runs;
-  idle = passed.idle;
   passed = passed_next plan k old.past new.past line stands.passed passed.goes_on here (subst (λ (p : Progress). line.index < index_of p.standing) passed.is_course passed.passed);
   are_courses = λ client one eight. by_cases (line.client == client)
       (λ mine.
@@ -97,7 +95,7 @@ stands_next plan k old new courses line course stands here from to passed = reco
       let other : (client == line.client) ≡ false = grind (arith, nat_tests) in
       let apart : client - 1 ≢ line.client - 1 = λ e. absurd (places_differ line.client client from one differs e) in
       set_other courses (line.client - 1) (client - 1) course (progress_of plan client old.past) apart (stands.are_courses client one eight)
-      ∙ ap (λ s. Some (record { commands = commands_of plan client; retries = plan.retries; standing = s })) (sym (passed.goes_on.others client other)));
+      ∙ ap (λ s. Some (record { commands = commands_of plan client; retries = plan.retries; standing = s })) (sym (passed.goes_on.others client one other)));
 }
   where
     places_differ : (a b : ℕ) → 1 ≤ a → 1 ≤ b → (a == b) ≡ false → b - 1 ≡ a - 1 → ⊥
@@ -111,18 +109,13 @@ no_times client (x ∷ clients) = refl
 pub stands_first : (plan : Plan) (machine : Machine) (courses : List Progress) → machine ≡ record { opening = opening_of plan; past = [] } → AreCourses plan [] courses → StandsAt plan 0 machine courses
 stands_first plan machine courses is are = subst (λ (m : Machine). StandsAt plan 0 m courses) (sym is) (record {
   runs = record { opening = refl; legal = tt; stepped = tt };
-  idle = refl;
   passed = λ client. (let none = no_times client (clients_of plan) in omega arith);
   are_courses = are;
 })
 
 -- behind the last one
-pub stands_last : (plan : Plan) (k : ℕ) (machine : Machine) (courses : List Progress) → StandsAt plan k machine courses → length (own_lines [] (clients_of plan)) ≤ k → HasRunLines plan machine
-stands_last plan k machine courses stands over = record {
-  runs = stands.runs;
-  worked = all_passed plan k machine.past stands.passed (let long = own_lines_length [] (clients_of plan) in omega arith);
-  idle = stands.idle;
-}
+pub stands_last : (plan : Plan) (k : ℕ) (machine : Machine) (courses : List Progress) → StandsAt plan k machine courses → length (own_lines [] (clients_of plan)) ≤ k → open_line plan machine.past ≡ None
+stands_last plan k machine courses stands over = all_passed plan k machine.past stands.passed (let long = own_lines_length [] (clients_of plan) in omega arith)
 
 -- a client's place lies within its lines
 pub line_within : (plan : Plan) (k : ℕ) (line : OwnLine) → slice_get (own_lines [] (clients_of plan)) k ≡ Some line → line.index < length (commands_of plan line.client)
@@ -152,6 +145,30 @@ has_course plan k client machine courses stands from to = slice_get_within cours
 
 pub course_there : (plan : Plan) (k client : ℕ) (machine : Machine) (courses : List Progress) (course : Progress) → StandsAt plan k machine courses → 1 ≤ client → client ≤ 8 → course ≡ get_or courses (client - 1) course → course ≡ progress_of plan client machine.past
 course_there plan k client machine courses course stands from to is = is ∙ get_or_from_slice_get courses (client - 1) (progress_of plan client machine.past) course (stands.are_courses client from to)
+
+-- the line at a place with its client's course
+pub record IsNow (plan : Plan) (k : ℕ) (machine : Machine) (course : Progress) (line : OwnLine) : Type 0 where
+  pub here : slice_get (own_lines [] (clients_of plan)) k ≡ Some line
+  pub from_one : 1 ≤ line.client
+  pub to_eight : line.client ≤ 8
+  pub within : line.index < length course.commands
+  pub due : IsDue plan machine course line
+
+pub line_now : (plan : Plan) (k : ℕ) (machine : Machine) (courses : List Progress) (items : List OwnLine) (d : OwnLine) (course : Progress) → StandsAt plan k machine courses → AllByRecursion IsClients plan.lines → items ≡ own_lines [] (clients_of plan) → k < length items
+    → course ≡ get_or courses ((get_or items k d).client - 1) course → IsNow plan k machine course (get_or items k d)
+line_now plan k machine courses items d course stands clients is within at =
+    let line = get_or items k d in
+    let here = line_here plan items k d is within in
+    let one = line_client plan k (get_or items k d) clients here in
+    let same = course_there plan k (get_or items k d).client machine courses course stands one.0 one.1 at in
+    let long : length course.commands ≡ length (commands_of plan (get_or items k d).client) = ap (λ (p : Progress). length p.commands) same in
+    record {
+      here = here;
+      from_one = one.0;
+      to_eight = one.1;
+      within = omega (arith, long, line_within plan k (get_or items k d) here);
+      due = due_at plan k machine courses (get_or items k d) course stands here same;
+    }
 
 -- a course, by its parts
 progress_is : (p : Progress) (commands : List Command) (retries : ℕ) (standing : Standing) → p.commands ≡ commands → p.retries ≡ retries → p.standing ≡ standing → p ≡ record { commands = commands; retries = retries; standing = standing }

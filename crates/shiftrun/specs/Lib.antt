@@ -1,4 +1,5 @@
 pub mod Endings
+pub mod Holding
 pub mod Lines
 pub mod Outputs
 pub mod ReportRuns

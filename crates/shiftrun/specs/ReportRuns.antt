@@ -1,5 +1,5 @@
 -- What the report of a whole run shows.
-use Rattle.std.specs.Prelude.{◌≡◌, Bool, true, false, ℕ, List, [], Some, MatchOption}
+use Rattle.std.specs.Prelude.{◌≡◌, Bool, true, false, ℕ, List, [], map, Some, MatchOption}
 use Rattle.sx_ops.specs.declared.spec.Spec.{Spec}
 use Rattle.sx_ops.specs.Operators.{targets_of}
 use Rattle.sx_heap.specs.declared.tables.NamedTable.{NamedTable}
@@ -10,7 +10,7 @@ use Rattle.sx_model.specs.Tables.{AreNewTables, AreCommittedNewTables}
 use Rattle.sx_lines.specs.declared.line.Line.{Line}
 use Rattle.sx_script.specs.Plans.{plan_of}
 use Rattle.sx_core.specs.Machines.{Machine}
-use Rattle.sx_core.specs.Kept.{plain_rows}
+use Rattle.sx_report.specs.TableLines.{rows_in}
 use Rattle.sx_report.specs.Reports.{IsReport}
 use Rattle.sx_report.specs.declared.end.ReportEnd.{ReportEnd}
 use Rattle.sx_report.specs.declared.end.ReportEnd.TheVariants as report
@@ -30,8 +30,8 @@ pub record AreTransformed (machine : Machine) (spec : Spec) (tables : List Named
   pub began : Started
   pub is_started : started machine.past ≡ Some began
   pub is_asked : began.spec ≡ spec
-  pub now : AreNewTables machine.opening machine.past began (plain_rows tables)
-  pub of_committed : AreCommittedNewTables machine.opening machine.past began (plain_rows tables)
+  pub now : AreNewTables machine.opening machine.past began (map rows_in tables)
+  pub of_committed : AreCommittedNewTables machine.opening machine.past began (map rows_in tables)
 
 -- without a transformation there are no new tables, and the propagator has no entry
 pub record IsUntouched (machine : Machine) (tables : List NamedTable) : Type 0 where
@@ -48,7 +48,6 @@ pub record IsRun (lines : List Line) (machine : Machine) (text : List ℕ) : Typ
 pub record IsStoppedRun (lines : List Line) (machine : Machine) (text : List ℕ) : Type 0 where
   pub stopped : HasStopped (plan_of lines) machine
   pub report : IsReport lines machine report.Full text
-  pub no_new_tables : report.new_tables ≡ []
 
 -- the run of a script to its end, or as far as its journal goes, by whether this was full
 abbrev pub IsRunOf : Bool → List Line → Machine → List ℕ → Type 0

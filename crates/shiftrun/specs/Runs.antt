@@ -1,12 +1,9 @@
 -- How far a machine has come with a script.
 use Rattle.std.specs.Prelude.{◌≡◌, ⊤, ℕ, [], Option, Some, None, Result, Ok, Err}
 use Rattle.sx_ops.specs.declared.spec.Spec.{Spec}
-use Rattle.sx_sync.specs.declared.Strategy.TheVariants.{Blocking}
-use Rattle.sx_sync.specs.declared.Phase.{Phase}
-use Rattle.sx_sync.specs.declared.Phase.TheVariants.{Idle}
-use Rattle.sx_model.specs.Leaves.{living, phase}
+use Rattle.sx_model.specs.Leaves.{living}
 use Rattle.sx_model.specs.Legal.{Legal}
-use Rattle.sx_model.specs.Schedules.{Plan, opening_of, open_line, Stepped, IsComplete, IsStopped}
+use Rattle.sx_model.specs.Schedules.{Plan, opening_of, open_line, paces_left, Stepped, IsComplete, IsStopped}
 use Rattle.sx_journal.specs.declared.entry.Event.{Event}
 use Rattle.sx_journal.specs.declared.entry.Reply.{Reply}
 use Rattle.sx_core.specs.Machines.{Machine, Turns}
@@ -22,11 +19,11 @@ pub record Runs (plan : Plan) (machine : Machine) : Type 0 where
   pub legal : Legal machine.opening machine.past
   pub stepped : Stepped plan machine.past
 
--- a machine that has worked through all lines, and has started nothing
+-- a machine that has worked through all lines, the clients' and the propagator's
 pub record HasRunLines (plan : Plan) (machine : Machine) : Type 0 where
   pub runs : Runs plan machine
   pub worked : open_line plan machine.past ≡ None
-  pub idle : phase machine.past ≡ Idle
+  pub passed : paces_left plan machine.past ≡ []
 
 -- a machine that has besides rolled back every transaction that lived
 pub record HasRolledBack (plan : Plan) (machine : Machine) : Type 0 where
@@ -53,15 +50,6 @@ pub record Takes (old new : Machine) (actor : ℕ) (event : Event) : Type 0 wher
 abbrev pub IsTaken : (old new : Machine) → ℕ → Event → Result Unit CoreFault → Type 0
 IsTaken old new actor event (Ok done) = Takes old new actor event
 IsTaken old new actor event (Err fault) = Fails old new actor event fault
-
--- a machine behind the rollbacks, at a phase of the script's transformation
-pub record Transforms (plan : Plan) (spec : Spec) (at : Phase) (machine : Machine) : Type 0 where
-  pub runs : Runs plan machine
-  pub worked : open_line plan machine.past ≡ None
-  pub rest : living machine.past ≡ []
-  pub change : plan.change ≡ Some spec
-  pub blocking : plan.strategy ≡ Blocking
-  pub phase_is : phase machine.past ≡ at
 
 -- how a run ends, by whether the script asks for a transformation
 abbrev pub end_of : Option Spec → End

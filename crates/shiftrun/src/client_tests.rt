@@ -1,6 +1,6 @@
 // Scripts of several clients: how each works through its lines, and which locks they meet. What is printed was known beforehand;
 // a report is given from its line `journal` on.
-use crate::tests::{assert_cut, assert_unread, pieces_and_one, put, sink, step};
+use crate::tests::{assert_cut, assert_unread, pieces_and_one, put, put_report, sink, step};
 use std::alloc::Global;
 use std::process::Abort;
 use std::test::Fail;
@@ -452,14 +452,6 @@ row hi 1,20
 end switched
 ";
 
-// Puts the report of a script, from what stands behind the script's lines.
-fn put_report(out: &mut Vec<u8>, script: &[u8], rest: &[u8]) -> Result<(), Fail> {
-    out.extend_from_slice(b"script\n")?;
-    out.extend_from_slice(script)?;
-    out.extend_from_slice(rest)?;
-    Ok(())
-}
-
 // A script has this report behind its own lines, and its machine comes so far.
 fn assert_reported(
     rt: &impl Abort,
@@ -556,18 +548,12 @@ fn a_part_is_written_where_a_write_fails(rt: HostRuntime) -> Result<(), Fail> {
     Ok(())
 }
 
-// A client holds a key, and another begins, asks for it and gives up, 5,000 times.
-fn put_many_turns(out: &mut Vec<u8>) -> Result<(), Fail> {
-    out.extend_from_slice(b"table t id:int* v:int\nrow t 1,1\nc1 begin\nc1 update t 1,2\n")?;
-    for _turn in 0..5000_u64 {
+// Puts the lines of a client that begins, asks for a key that another holds, and gives up, so many times.
+pub(crate) fn put_round_lines(out: &mut Vec<u8>, count: i64) -> Result<(), Fail> {
+    for _round in 0..count {
         out.extend_from_slice(b"c2 begin\nc2 update t 1,3\nc2 commit\n")?;
     }
     Ok(())
-}
-
-// The last of the transactions whose turns fit into the journal.
-fn last_held() -> i64 {
-    4546
 }
 
 // Puts the nine entries of a request that is held, the first of them with this number.
@@ -584,8 +570,8 @@ fn put_held(alloc: Global, out: &mut Vec<u8>, first: i64) -> Result<(), Fail> {
     Ok(())
 }
 
-// Puts the entries of one of these turns: the first has this number, and the transaction that one.
-fn put_turn(alloc: Global, out: &mut Vec<u8>, first: i64, txn: i64) -> Result<(), Fail> {
+// Puts the entries of one of these rounds: the first has this number, and its transaction and its record those.
+fn put_round(alloc: Global, out: &mut Vec<u8>, first: i64, txn: i64, lsn: i64) -> Result<(), Fail> {
     put(alloc, out, "", first, " c2 begin begun ")?;
     put(alloc, out, "", txn, "\n")?;
     put_held(alloc, out, first.saturating_add(1))?;
@@ -596,42 +582,80 @@ fn put_turn(alloc: Global, out: &mut Vec<u8>, first: i64, txn: i64) -> Result<()
         first.saturating_add(10),
         " c2 undo aborted ",
     )?;
-    put(alloc, out, "", txn.saturating_add(1), "\n")
+    put(alloc, out, "", lsn, "\n")
 }
 
-// Puts the entries of the turns that fit.
-fn put_turns(alloc: Global, out: &mut Vec<u8>) -> Result<(), Fail> {
-    for txn in 2..=last_held() {
-        put_turn(alloc, out, txn.saturating_mul(11).saturating_sub(19), txn)?;
+// Puts the entries of so many rounds, behind so many entries and records.
+pub(crate) fn put_round_entries(
+    alloc: Global,
+    out: &mut Vec<u8>,
+    count: i64,
+    entries: i64,
+    records: i64,
+) -> Result<(), Fail> {
+    for round in 1..=count {
+        put_round(
+            alloc,
+            out,
+            round
+                .saturating_mul(11)
+                .saturating_add(entries.saturating_sub(10)),
+            round.saturating_add(1),
+            round.saturating_add(records),
+        )?;
     }
     Ok(())
 }
 
-// Puts the records of their ends.
-fn put_aborts(alloc: Global, out: &mut Vec<u8>) -> Result<(), Fail> {
-    for txn in 2..=last_held() {
-        put(alloc, out, "", txn.saturating_add(1), " ")?;
-        put(alloc, out, "", txn, " abort\n")?;
+// Puts their records, behind so many.
+pub(crate) fn put_round_records(
+    alloc: Global,
+    out: &mut Vec<u8>,
+    count: i64,
+    records: i64,
+) -> Result<(), Fail> {
+    for round in 1..=count {
+        put(alloc, out, "", round.saturating_add(records), " ")?;
+        put(alloc, out, "", round.saturating_add(1), " abort\n")?;
     }
     Ok(())
 }
 
-// Puts the report behind the script's lines, up to the turn that no longer fits.
+// A client holds a key, and another asks for it 5,000 times.
+fn put_many_rounds(out: &mut Vec<u8>) -> Result<(), Fail> {
+    out.extend_from_slice(b"table t id:int* v:int\nrow t 1,1\nc1 begin\nc1 update t 1,2\n")?;
+    put_round_lines(out, 5000)
+}
+
+// How many rounds fit into the journal.
+pub(crate) fn rounds() -> i64 {
+    4545
+}
+
+// Puts the report behind the script's lines, up to the round that no longer fits.
 fn put_full_rest(alloc: Global, out: &mut Vec<u8>) -> Result<(), Fail> {
     out.extend_from_slice(b"journal\n1 c1 begin begun 1\n2 c1 update t done 2 1,2\n")?;
-    put_turns(alloc, out)?;
+    put_round_entries(alloc, out, rounds(), 2, 2)?;
     out.extend_from_slice(b"49998 c2 begin begun 4547\nlog\n1 0 put t 1,1\n2 1 put t 1,2\n")?;
-    put_aborts(alloc, out)?;
+    put_round_records(alloc, out, rounds(), 2)?;
     out.extend_from_slice(b"tables\ntable t\nrow t 1,2\nend full\n")?;
     Ok(())
 }
 
-// A script has this report, up to a full journal.
-fn assert_full(rt: &impl Abort, alloc: Global, script: &[u8], report: &[u8]) -> Result<(), Fail> {
+// A script has this report behind its own lines, up to a full journal, and its machine comes so far.
+pub(crate) fn assert_full(
+    rt: &impl Abort,
+    alloc: Global,
+    script: &[u8],
+    rest: &[u8],
+    phase: Phase,
+) -> Result<(), Fail> {
+    let mut report = Vec::new(alloc);
+    put_report(&mut report, script, rest)?;
     let mut sink = sink(alloc, 2_000_000, 4096, &[])?;
     let ending = step(alloc, script, &mut sink)?;
-    assert_eq!(rt; ending, (7, Some(Phase::Idle)));
-    assert!(rt; sink.bytes() == report);
+    assert_eq!(rt; ending, (7, Some(phase)));
+    assert!(rt; sink.bytes() == report.as_slice());
     Ok(())
 }
 
@@ -639,10 +663,8 @@ fn assert_full(rt: &impl Abort, alloc: Global, script: &[u8], report: &[u8]) -> 
 fn a_full_journal_stops_the_run(rt: HostRuntime) -> Result<(), Fail> {
     let alloc = rt.alloc();
     let mut script = Vec::new(alloc);
-    put_many_turns(&mut script)?;
+    put_many_rounds(&mut script)?;
     let mut rest = Vec::new(alloc);
     put_full_rest(alloc, &mut rest)?;
-    let mut report = Vec::new(alloc);
-    put_report(&mut report, script.as_slice(), rest.as_slice())?;
-    assert_full(&rt, alloc, script.as_slice(), report.as_slice())
+    assert_full(&rt, alloc, script.as_slice(), rest.as_slice(), Phase::Idle)
 }

@@ -4,6 +4,7 @@
 mod end;
 mod finish;
 mod lines;
+mod propagator;
 mod run;
 mod shift;
 mod status;
@@ -45,5 +46,11 @@ fn words(rt: &HostRuntime) -> io::Result<Vec<Word>> {
 
 #[cfg(test)]
 mod client_tests;
+#[cfg(test)]
+mod online_tests;
+#[cfg(test)]
+mod switch_tests;
+#[cfg(test)]
+mod tail_tests;
 #[cfg(test)]
 mod tests;

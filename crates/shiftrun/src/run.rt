@@ -91,6 +91,6 @@ fn worked(alloc: Global, core: &mut Core, script: &Script) -> Result<End, CoreFa
     requires { core.old ≡ record { opening = opening_of (plan_of script.now); past = [] } }
     ensures { ComesTo (IsEnd (plan_of script.now) core.new) (plan_of script.now) core.new result }
 {
-    step_all(alloc, core, script)?;
-    finish(alloc, core, script)
+    let image = step_all(alloc, core, script)?;
+    finish(alloc, core, script, image)
 }

@@ -358,6 +358,31 @@ fn many_rows_are_scanned_in_turns(rt: HostRuntime) -> Result<(), Fail> {
     )
 }
 
+// Puts the report of a script, from what stands behind the script's lines.
+pub(crate) fn put_report(out: &mut Vec<u8>, script: &[u8], rest: &[u8]) -> Result<(), Fail> {
+    out.extend_from_slice(b"script\n")?;
+    out.extend_from_slice(script)?;
+    out.extend_from_slice(rest)?;
+    Ok(())
+}
+
+// A script has this report behind its own lines, and its transformation is done.
+pub(crate) fn assert_switched(
+    rt: &impl Abort,
+    alloc: Global,
+    name: &str,
+    script: &[u8],
+    rest: &[u8],
+) -> Result<(), Fail> {
+    let mut report = Vec::new(alloc);
+    put_report(&mut report, script, rest)?;
+    let mut sink = sink(alloc, 100_000, 4096, &[])?;
+    let ending = step(alloc, script, &mut sink)?;
+    assert_eq!(rt; ending, (0, Some(Phase::Done)), "at {name}");
+    assert_eq!(rt; sink.bytes(), report.as_slice(), "at {name}");
+    Ok(())
+}
+
 // Runs a script from a source that gives so many bytes at a time, and whose read of this number fails: nothing is written.
 pub(crate) fn assert_unread(
     rt: &impl Abort,

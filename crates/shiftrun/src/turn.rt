@@ -1,8 +1,6 @@
 // A client's turn on the machine.
 ghost use Rattle.std.specs.Prelude.{◌≡◌, ◌≤◌, ◌<◌};
-ghost use Rattle.sx_sync.specs.declared.Phase.TheVariants.{Idle};
 ghost use Rattle.sx_journal.specs.declared.entry.Event.TheVariants.{Client};
-ghost use Rattle.sx_model.specs.Leaves.{phase};
 ghost use Rattle.shiftrun.specs.Runs.{IsTaken};
 
 use std::marker::Brand;
@@ -15,7 +13,6 @@ use sx_steps::Steps;
 pub(crate) fn request_of(core: &mut Core, client: u8, request: Request) -> Result<(), CoreFault>
     requires from_one { 1 ≤ client }
     requires to_eight { client ≤ 8 }
-    requires idle { phase core.old.past ≡ Idle }
     ensures { IsTaken core.old core.new client (Client request) result }
 {
     counted::<Brand>(core, client, request, Blank::new(1))
@@ -32,7 +29,6 @@ fn counted<L: Ledger>(
     requires some { 0 < blank.parts }
     requires from_one { 1 ≤ client }
     requires to_eight { client ≤ 8 }
-    requires idle { phase core.old.past ≡ Idle }
     ensures { IsTaken core.old core.new client (Client request) result }
 {
     let mut steps = Steps::<L>::new(blank);

@@ -1,5 +1,8 @@
 -- A client's turn, outcome by outcome: from what the manager answers to what the fields keep.
-use Rattle.std.proofs.Common.{◌≡◌, ◌≤◌, ◌+◌, ◌∷◌, [], ℕ, false, List, length, Option, Some, None, refl, sym, ◌∙◌, ap, subst, inl, inr, IsSome, is_some}
+use Rattle.std.specs.Option.{option_to_list}
+use Rattle.std.proofs.lemmas.List.{append-nil}
+use Rattle.sx_values.specs.declared.schema.BadRow.{BadRow}
+use Rattle.std.proofs.Common.{◌≡◌, ◌≤◌, ◌+◌, ◌++◌, ◌⊎◌, ◌∷◌, [], ℕ, Bool, false, List, length, map, option_map, Option, Some, None, refl, sym, ◌∙◌, ap, subst, inl, inr, IsSome}
 use Rattle.sx_values.specs.declared.value.Value.{Value}
 use Rattle.sx_values.specs.declared.catalog.Declared.{Declared}
 use Rattle.sx_values.specs.Layouts.{Layout, key_fault}
@@ -7,8 +10,7 @@ use Rattle.sx_values.specs.Names.{same_name}
 use Rattle.sx_values.specs.Catalogs.{schema_of}
 use Rattle.sx_log.specs.declared.record.Rec.{Rec}
 use Rattle.sx_log.specs.declared.record.Body.TheVariants.{Write, Commit, Abort}
-use Rattle.sx_log.specs.State.{row_left}
-use Rattle.sx_log.specs.Undoing.{Rows, writes_left, undo_record, undo_last}
+use Rattle.sx_log.specs.Undoing.{Rows, writes_left, undo_last}
 use Rattle.sx_locks.specs.declared.mode.Mode.TheVariants.{Shared, Exclusive}
 use Rattle.sx_txn.specs.declared.answers.Change.{Change}
 use Rattle.sx_txn.specs.declared.answers.Change.TheVariants.{Insert, Replace, Delete}
@@ -16,88 +18,249 @@ use Rattle.sx_txn.specs.declared.answers.TxnRead.{TxnRead}
 use Rattle.sx_txn.specs.declared.answers.TxnRead.TheVariants as read
 use Rattle.sx_txn.specs.declared.answers.TxnWrite.{TxnWrite}
 use Rattle.sx_txn.specs.declared.answers.TxnWrite.TheVariants as write
-use Rattle.sx_txn.specs.Managed.{OwnMeets, Unchanged, schema_in, row_now as has_now}
+use Rattle.sx_txn.specs.Managed.{Managed, Unchanged, schema_in, row_now as has_now}
 use Rattle.sx_txn.specs.Turns.{Begins as ManagerBegins, Reads as ManagerReads, Writes as ManagerWrites, Ends, Undoes as ManagerUndoes, Hinders, CanChange, FitsSchema, key_of_change, image_of, CanUndoLast}
 use Rattle.sx_txn.specs.Answers.{AnswersRead, AnswersWrite, AnswersAt, Refuses, Makes, Aborts as ManagerAborts, refusal}
-use Rattle.sx_sync.specs.declared.Phase.TheVariants.{Idle}
+use Rattle.sx_sync.specs.declared.Phase.{Phase}
+use Rattle.sx_sync.specs.declared.Phase.TheVariants.{Idle, Scanning, Chasing, Draining, Late, Done}
+use Rattle.sx_journal.specs.declared.entry.Event.{Event}
 use Rattle.sx_journal.specs.declared.entry.Entry.{Entry}
 use Rattle.sx_journal.specs.declared.entry.Event.TheVariants.{Client}
 use Rattle.sx_journal.specs.declared.entry.Request.{Request}
 use Rattle.sx_journal.specs.declared.entry.Request.TheVariants as request
 use Rattle.sx_journal.specs.declared.entry.Reply.{Reply}
 use Rattle.sx_journal.specs.declared.entry.Reply.TheVariants as reply
-use Rattle.sx_model.specs.Effects.{effect, Nothing, Reads, Begins, Writes, Undoes, Commits, Aborts}
+use Rattle.sx_model.specs.Effects.{Effect, effect, Nothing, Reads, Begins, Writes, Undoes, Commits, Aborts, Starts, Sees, Fetches, Checks, Conflicts, Violates, Switches, Cancels}
 use Rattle.sx_model.specs.Openings.{Opening}
-use Rattle.sx_model.specs.Leaves.{living, without, phase, started, txn_of, txn_among, begun}
-use Rattle.sx_model.specs.Logs.{log_of, next_lsn, row_now}
+use Rattle.sx_model.specs.Leaves.{Started, living, without, phase, phase_after, started, started_by, txn_of, txn_among, begun}
+use Rattle.sx_model.specs.Known.{adopted, new_tables, named_in, known}
+use Rattle.sx_model.specs.NewRows.{row_in}
+use Rattle.sx_model.specs.Closed.{closed}
+use Rattle.sx_model.specs.Scans.{seen, seen_after, IsNextSide, next_side_after}
+use Rattle.sx_model.specs.Cursors.{IsWalked}
+use Rattle.sx_model.specs.Switches.{position, position_after}
+use Rattle.sx_model.specs.Logs.{log_of, next_lsn, row_now, entry_record}
 use Rattle.sx_model.specs.Held.{is_ending, holder}
 use Rattle.sx_model.specs.Replies.{client_reply, unless_held, read_answer}
 use Rattle.sx_model.specs.Legal.{Allows, IsLegalEntry, HasRoom}
 use Rattle.sx_model.proofs.TestLaws.{by_cases}
 use Rattle.sx_model.proofs.EntryLaws.{living_by}
+use Rattle.sx_model.proofs.LegalLaws.{never_late}
+use Rattle.sx_model.proofs.KnownLaws.{open_schema}
+use Rattle.sx_model.proofs.FitLaws.{is_done}
+use Rattle.sx_model.proofs.CursorLaws.{walked_grows}
 use Rattle.sx_core.specs.Machines.{Machine}
-use Rattle.sx_core.specs.Kept.{Fields, ManagerMeets, IsIdle, TransformMeets, IsKept, shapes_of}
+use Rattle.sx_core.specs.Kept.{Fields, ManagerMeets, ScanMeets, IsKept, shapes_of, shown_in, shown_now, is_behind}
 use Rattle.sx_core.specs.Asked.{Comes, HasPlace, IsInside, asked_for}
 use Rattle.sx_core.specs.Refusals.{change_fault, read_told, write_told}
 use Rattle.sx_core.proofs.LivingLemmas.{one_fewer}
 use Rattle.sx_core.proofs.HolderLemmas.{holder-named, holder-none}
-use Rattle.sx_core.proofs.ManagerLemmas.{row-own, undo-made, meets-quiet, meets-begun, meets-read, meets-written, meets-ended, meets-undone, commit_ends, abort_ends}
+use Rattle.sx_core.proofs.ManagerLemmas.{IsSteady, row-there, undo-made, quiet-nothing, meets-quiet, meets-begun, meets-read, meets-written, meets-ended, meets-undone, commit_ends, abort_ends}
 use Rattle.sx_core.proofs.ReplyLemmas.{begin-answered, undone-answered, aborted-answered, commit-answered, read-answered, change-answered, IsGood, change_told, told-done, told-exists, told-missing, change-key, read-key, change-record, effect-row, effect-absent, effect-begun, effect-done, effect-committed, effect-undone, effect-aborted, quiet-held, quiet-exists, quiet-missing, committed-true}
-use Rattle.sx_core.proofs.TurnLemmas.{Holds, from_view, Longer, no_longer, by_one, Took, took, opened, idle_now, phase_by, started_told, next_there}
+use Rattle.sx_core.proofs.TurnLemmas.{Holds, from_view, Longer, no_longer, by_one, Took, took, opened, phase_by, started_told, next_there}
 
 -- the entry of a client's request with its answer
 abbrev pub client_entry : ℕ → Request → Reply → Entry
 client_entry actor asked answer = record { actor = actor; event = Client asked; reply = answer }
 
+-- the effects of clients: they leave the transformation as it is
+abbrev pub LeavesIt : Effect → Type 0
+LeavesIt Nothing = Unit {0}
+LeavesIt Reads = Unit {0}
+LeavesIt (Begins txn) = Unit {0}
+LeavesIt Writes = Unit {0}
+LeavesIt Undoes = Unit {0}
+LeavesIt Commits = Unit {0}
+LeavesIt Aborts = Unit {0}
+LeavesIt (Starts mark) = ⊥
+LeavesIt (Sees lsns last) = ⊥
+LeavesIt (Fetches place) = ⊥
+LeavesIt Checks = ⊥
+LeavesIt Conflicts = ⊥
+LeavesIt Violates = ⊥
+LeavesIt Switches = ⊥
+LeavesIt Cancels = ⊥
+
+-- an entry with such an effect
+pub record IsLeft (e : Entry) : Type 0 where
+  pub f : Effect
+  pub told : effect e.reply ≡ f
+  pub left : LeavesIt f
+
+phase-left : (s : Option Started) (f : Effect) (at : Phase) → LeavesIt f → phase_after s f at ≡ at
+phase-left s Nothing at left = refl
+phase-left s Reads at left = refl
+phase-left s (Begins txn) at left = refl
+phase-left s Writes at left = refl
+phase-left s Undoes at left = refl
+phase-left s Commits at left = refl
+phase-left s Aborts at left = refl
+phase-left s (Starts mark) at left = absurd left
+phase-left s (Sees lsns last) at left = absurd left
+phase-left s (Fetches place) at left = absurd left
+phase-left s Checks at left = absurd left
+phase-left s Conflicts at left = absurd left
+phase-left s Violates at left = absurd left
+phase-left s Switches at left = absurd left
+phase-left s Cancels at left = absurd left
+
+started-left : (asked : Event) (f : Effect) (s : Option Started) → LeavesIt f → started_by asked f s ≡ s
+started-left asked Nothing s left = refl
+started-left asked Reads s left = refl
+started-left asked (Begins txn) s left = refl
+started-left asked Writes s left = refl
+started-left asked Undoes s left = refl
+started-left asked Commits s left = refl
+started-left asked Aborts s left = refl
+started-left asked (Starts mark) s left = absurd left
+started-left asked (Sees lsns last) s left = absurd left
+started-left asked (Fetches place) s left = absurd left
+started-left asked Checks s left = absurd left
+started-left asked Conflicts s left = absurd left
+started-left asked Violates s left = absurd left
+started-left asked Switches s left = absurd left
+started-left asked Cancels s left = absurd left
+
+seen-left : (f : Effect) (seen_before : List ℕ) → LeavesIt f → seen_after f seen_before ≡ seen_before
+seen-left Nothing seen_before left = refl
+seen-left Reads seen_before left = refl
+seen-left (Begins txn) seen_before left = refl
+seen-left Writes seen_before left = refl
+seen-left Undoes seen_before left = refl
+seen-left Commits seen_before left = refl
+seen-left Aborts seen_before left = refl
+seen-left (Starts mark) seen_before left = absurd left
+seen-left (Sees lsns last) seen_before left = absurd left
+seen-left (Fetches place) seen_before left = absurd left
+seen-left Checks seen_before left = absurd left
+seen-left Conflicts seen_before left = absurd left
+seen-left Violates seen_before left = absurd left
+seen-left Switches seen_before left = absurd left
+seen-left Cancels seen_before left = absurd left
+
+position-left : (end : ℕ) (f : Effect) (place : ℕ) → LeavesIt f → position_after end f place ≡ place
+position-left end Nothing place left = refl
+position-left end Reads place left = refl
+position-left end (Begins txn) place left = refl
+position-left end Writes place left = refl
+position-left end Undoes place left = refl
+position-left end Commits place left = refl
+position-left end Aborts place left = refl
+position-left end (Starts mark) place left = absurd left
+position-left end (Sees lsns last) place left = absurd left
+position-left end (Fetches at) place left = absurd left
+position-left end Checks place left = absurd left
+position-left end Conflicts place left = absurd left
+position-left end Violates place left = absurd left
+position-left end Switches place left = absurd left
+position-left end Cancels place left = absurd left
+
+pub phase_left : (past : List Entry) (e : Entry) → IsLeft e → phase (e ∷ past) ≡ phase past
+phase_left past e is = phase_by past e is.f is.told ∙ phase-left (started past) is.f (phase past) is.left
+
+pub started_left : (past : List Entry) (e : Entry) → IsLeft e → started (e ∷ past) ≡ started past
+started_left past e is = started_told past e is.f is.told ∙ started-left e.event is.f (started past) is.left
+
+seen_left : (past : List Entry) (e : Entry) → IsLeft e → seen (e ∷ past) ≡ seen past
+seen_left past e is = ap (λ f. seen_after f (seen past)) is.told ∙ seen-left is.f (seen past) is.left
+
+pub position_left : (o : Opening) (past : List Entry) (e : Entry) → IsLeft e → position o (e ∷ past) ≡ position o past
+position_left o past e is = ap (λ f. position_after (length (log_of o (e ∷ past))) f (position o past)) is.told ∙ position-left (length (log_of o (e ∷ past))) is.f (position o past) is.left
+
+-- ** a scan under way **
+
+-- the next side stays
+side-left : (log : List Rec) (s : Option Started) (lsns : List ℕ) (asked : Event) (answer : Reply) (next : ℕ) (earlier : Type 0) → LeavesIt (effect answer) → next_side_after log s lsns asked answer next earlier ≡ earlier
+unfolding effect next_side_after
+side-left log s lsns asked (reply.Started lsn) next earlier left = absurd left
+side-left log s lsns asked (reply.Scanned side turn last) next earlier left = absurd left
+side-left log s lsns asked other next earlier left = refl
+
+more_walked : (item : Option Rec) (log : List Rec) (mark : ℕ) (lsns table : List ℕ) (behind : List Value → Bool) → IsWalked log mark lsns table behind → IsWalked (option_to_list item ++ log) mark lsns table behind
+more_walked None log mark lsns table behind walked = walked
+more_walked (Some r) log mark lsns table behind walked = walked_grows r log mark lsns table behind walked
+
 -- what a client's turn leaves of the fields
 pub record ClientLeaves (o : Opening) (past : List Entry) (f g : Fields) (e : Entry) : Type 0 where
-  pub manager : ManagerMeets o (e ∷ past) g.managed
+  pub manager : IsSteady o past e → ManagerMeets o (e ∷ past) g.managed
   pub clients : g.clients ≡ living (e ∷ past)
-  pub phase : phase (e ∷ past) ≡ phase past
-  pub started : started (e ∷ past) ≡ started past
+  pub left : IsLeft e
 
 -- the fields that no client's turn touches, and the room that there is for the end of each live transaction
 pub record Beside (f g : Fields) : Type 0 where
-  pub new_tables : g.new_tables ≡ f.new_tables
+  pub known : g.known ≡ f.known
   pub now : g.now ≡ f.now
+  pub spec : g.spec ≡ f.spec
+  pub cursor : g.cursor ≡ f.cursor
+  pub position : g.position ≡ f.position
   pub room : length g.clients ≤ g.spare
 
-legal-client : (o : Opening) (past : List Entry) (actor : ℕ) (asked : Request) (answer : Reply) → 1 ≤ actor → actor ≤ 8 → phase past ≡ Idle → HasRoom past answer → answer ≡ client_reply o past actor asked
+legal-client : (o : Opening) (past : List Entry) (actor : ℕ) (asked : Request) (answer : Reply) → 1 ≤ actor → actor ≤ 8 → HasRoom past answer → answer ≡ client_reply o past actor asked
     → IsLegalEntry o past (client_entry actor asked answer)
 unfolding Allows
-legal-client o past actor asked answer from_one to_eight idle room answered =
-    record { room = room; allowed = record { from_one = from_one; to_eight = to_eight; idle = idle; answered = answered } }
+legal-client o past actor asked answer from_one to_eight room answered =
+    record { room = room; allowed = record { from_one = from_one; to_eight = to_eight; answered = answered } }
+
+-- a client's entry shows no new tables
+pub steady_left : (o : Opening) (past : List Entry) (f : Fields) (e : Entry) → IsKept o past f → IsLegalEntry o past e → IsLeft e → IsSteady o past e
+steady_left o past f e kept entry is = record {
+  opened = kept.opened;
+  loads = kept.loads_fit;
+  legal = (kept.legal, entry);
+  shown = ap (λ at. map adopted (shown_in at (new_tables o.catalog (started (e ∷ past))))) (phase_left past e is) ∙ ap (λ s. map adopted (shown_in (phase past) (new_tables o.catalog s))) (started_left past e is);
+  timely = λ done. sym (phase_left past e is) ∙ done;
+}
+
+scan_left : (o : Opening) (past : List Entry) (e : Entry) (cursor : Option (List Value)) (at : Phase) (s : Option Started) → IsLeft e → ScanMeets o past cursor at s → ScanMeets o (e ∷ past) cursor at s
+scan_left o past e cursor Scanning (Some s) is scan = record {
+  next_side = subst (λ (side : Type 0). side) (sym (side-left (log_of o (e ∷ past)) (started (e ∷ past)) (seen (e ∷ past)) e.event e.reply 0 (IsNextSide o past 0) (subst LeavesIt (sym is.told) is.left))) scan.next_side;
+  walked = λ name only. subst (λ lsns. IsWalked (log_of o (e ∷ past)) s.mark lsns name (is_behind cursor)) (sym (seen_left past e is))
+      (more_walked (entry_record o past (log_of o past) e) (log_of o past) s.mark (seen past) name (is_behind cursor) (scan.walked name only));
+}
+scan_left o past e cursor Scanning None is scan = tt
+scan_left o past e cursor Idle s is scan = tt
+scan_left o past e cursor Chasing s is scan = tt
+scan_left o past e cursor Draining s is scan = tt
+scan_left o past e cursor Late s is scan = tt
+scan_left o past e cursor Done s is scan = tt
 
 -- the machine keeps what it kept, behind the client's entry
-kept-client : (o : Opening) (past : List Entry) (f g : Fields) (e : Entry) → IsKept o past f → f.now ≡ Idle → IsLegalEntry o past e → ClientLeaves o past f g e → Beside f g → IsKept o (e ∷ past) g
-kept-client o past f g e kept idle entry leaves beside =
-    let was : IsIdle past f.spec f.new_tables = subst (λ p. TransformMeets o past f.managed.log f.managed.tables p f.spec f.cursor f.new_tables) idle kept.transform_meets in
-    let is : IsIdle (e ∷ past) g.spec g.new_tables = record { none = leaves.started ∙ was.none; no_tables = beside.new_tables ∙ was.no_tables } in
+pub kept-client : (o : Opening) (past : List Entry) (f g : Fields) (e : Entry) → IsKept o past f → IsLegalEntry o past e → ClientLeaves o past f g e → Beside f g → IsKept o (e ∷ past) g
+kept-client o past f g e kept entry leaves beside =
+    let at = phase_left past e leaves.left in
+    let is = started_left past e leaves.left in
     record {
-      legal = (kept.legal, entry);
+      opened = kept.opened;
       loads_fit = kept.loads_fit;
-      manager_meets = leaves.manager;
+      legal = (kept.legal, entry);
+      manager_meets = leaves.manager (steady_left o past f e kept entry leaves.left);
       clients_are = leaves.clients;
       room = beside.room;
-      phase_is = leaves.phase ∙ kept.phase_is ∙ sym beside.now;
-      transform_meets = subst (λ p. TransformMeets o (e ∷ past) g.managed.log g.managed.tables p g.spec g.cursor g.new_tables) (sym (beside.now ∙ idle)) is;
+      phase_is = beside.now ∙ kept.phase_is ∙ sym at;
+      known_is =
+          beside.known ∙ kept.known_is
+          ∙ sym (ap (λ p. o.catalog ++ map adopted (named_in p (new_tables o.catalog (started (e ∷ past))))) at ∙ ap (λ s. o.catalog ++ map adopted (named_in (phase past) (new_tables o.catalog s))) is);
+      spec_is = beside.spec ∙ kept.spec_is ∙ ap (option_map (λ (s : Started). s.spec)) (sym is);
+      position_is = beside.position ∙ kept.position_is ∙ sym (position_left o past e leaves.left);
+      scan_meets =
+          subst (λ cursor. ScanMeets o (e ∷ past) cursor (phase (e ∷ past)) (started (e ∷ past))) (sym beside.cursor)
+          (subst (λ p. ScanMeets o (e ∷ past) f.cursor p (started (e ∷ past))) (sym at) (subst (ScanMeets o (e ∷ past) f.cursor (phase past)) (sym is) (scan_left o past e f.cursor (phase past) (started past) leaves.left kept.scan_meets)));
     }
 
 -- a client's turn, from what it leaves
 pub client_took : (catalog : List Declared) (loads : ℕ) (past journal : List Entry) (f g : Fields) (m : Machine) (actor : ℕ) (asked : Request) (answer : Reply)
-    → Holds catalog loads past f m → Comes m actor → HasRoom past answer → Longer f.managed.log g.managed.log → journal ≡ client_entry actor asked answer ∷ past
+    → Holds catalog loads past f m → Comes actor → HasRoom past answer → Longer f.managed.log g.managed.log → journal ≡ client_entry actor asked answer ∷ past
     → answer ≡ client_reply (opened catalog loads f.managed.log) past actor asked → ClientLeaves (opened catalog loads f.managed.log) past f g (client_entry actor asked answer) → Beside f g
     → Took catalog loads journal g m actor (Client asked) answer
 client_took catalog loads past journal f g m actor asked answer holds comes room longer is answered leaves beside =
-    let idle = idle_now catalog loads past f m holds comes.idle in
-    let entry = legal-client (opened catalog loads f.managed.log) past actor asked answer comes.from_one comes.to_eight (holds.kept.phase_is ∙ idle) room answered in
-    let kept = kept-client (opened catalog loads f.managed.log) past f g (client_entry actor asked answer) holds.kept idle entry leaves beside in
+    let entry = legal-client (opened catalog loads f.managed.log) past actor asked answer comes.from_one comes.to_eight room answered in
+    let kept = kept-client (opened catalog loads f.managed.log) past f g (client_entry actor asked answer) holds.kept entry leaves beside in
     took catalog loads past journal f g m actor (Client asked) answer holds longer is (subst (λ j. IsKept (opened catalog loads f.managed.log) j g) (sym is) kept)
 
-place_here : (catalog : List Declared) (loads : ℕ) (past : List Entry) (f : Fields) (m : Machine) (answer : Reply) → Holds catalog loads past f m → HasPlace m → HasRoom past answer
+pub place_here : (catalog : List Declared) (loads : ℕ) (past : List Entry) (f : Fields) (m : Machine) (answer : Reply) → Holds catalog loads past f m → HasPlace m → HasRoom past answer
 place_here catalog loads past f m answer holds place = inl (from_view HasPlace (opened catalog loads f.managed.log) past m holds.view place)
 
-inside_here : (catalog : List Declared) (loads : ℕ) (past : List Entry) (f : Fields) (m : Machine) (actor txn : ℕ) → Holds catalog loads past f m → txn_of m.past actor ≡ Some txn → txn_of past actor ≡ Some txn
+pub inside_here : (catalog : List Declared) (loads : ℕ) (past : List Entry) (f : Fields) (m : Machine) (actor txn : ℕ) → Holds catalog loads past f m → txn_of m.past actor ≡ Some txn → txn_of past actor ≡ Some txn
 inside_here catalog loads past f m actor txn holds inside = from_view (λ (x : Machine). txn_of x.past actor ≡ Some txn) (opened catalog loads f.managed.log) past m holds.view inside
 
 rests_here : (catalog : List Declared) (loads : ℕ) (past : List Entry) (f : Fields) (m : Machine) (txn : ℕ) → Holds catalog loads past f m → is_ending m.past txn ≡ false → is_ending past txn ≡ false
@@ -105,16 +268,15 @@ rests_here catalog loads past f m txn holds rests = from_view (λ (x : Machine).
 
 -- ** an answer that changes nothing **
 
-leaves-quiet : (o : Opening) (past : List Entry) (f g : Fields) (e : Entry) → IsKept o past f → Unchanged f.managed g.managed → g.clients ≡ f.clients → effect e.reply ≡ Nothing → ClientLeaves o past f g e
+pub leaves-quiet : (o : Opening) (past : List Entry) (f g : Fields) (e : Entry) → IsKept o past f → Unchanged f.managed g.managed → g.clients ≡ f.clients → effect e.reply ≡ Nothing → ClientLeaves o past f g e
 leaves-quiet o past f g e kept stays clients told = record {
-  manager = meets-quiet o past f.managed g.managed e kept.manager_meets stays told;
+  manager = λ steady. meets-quiet o past f.managed g.managed e Nothing steady kept.manager_meets stays (quiet-nothing o past e told);
   clients = clients ∙ kept.clients_are ∙ sym (living_by past e Nothing told);
-  phase = phase_by past e Nothing told;
-  started = started_told past e Nothing told;
+  left = record { f = Nothing; told = told; left = tt };
 }
 
 pub noted : (catalog : List Declared) (loads : ℕ) (past journal : List Entry) (f g : Fields) (m : Machine) (actor : ℕ) (asked : Request) (answer : Reply)
-    → Holds catalog loads past f m → Comes m actor → HasPlace m → client_reply m.opening m.past actor asked ≡ answer → effect answer ≡ Nothing
+    → Holds catalog loads past f m → Comes actor → HasPlace m → client_reply m.opening m.past actor asked ≡ answer → effect answer ≡ Nothing
     → Unchanged f.managed g.managed → g.clients ≡ f.clients → Beside f g → journal ≡ client_entry actor asked answer ∷ past
     → Took catalog loads journal g m actor (Client asked) answer
 noted catalog loads past journal f g m actor asked answer holds comes place answered quiet stays clients beside is =
@@ -130,14 +292,13 @@ leaves-begun o past f g actor txn kept begins outside clients =
     let e = client_entry actor request.Begin (reply.Begun txn) in
     let told = effect-begun txn in
     record {
-      manager = meets-begun o past f.managed g.managed (client_entry actor request.Begin (reply.Begun txn)) txn kept.legal kept.manager_meets begins told outside;
+      manager = λ steady. meets-begun o past f.managed g.managed (client_entry actor request.Begin (reply.Begun txn)) txn steady kept.manager_meets begins told outside;
       clients = clients ∙ ap (λ l. record { client = actor; txn = txn } ∷ l) kept.clients_are ∙ sym (living_by past (client_entry actor request.Begin (reply.Begun txn)) (Begins txn) told);
-      phase = phase_by past (client_entry actor request.Begin (reply.Begun txn)) (Begins txn) told;
-      started = started_told past (client_entry actor request.Begin (reply.Begun txn)) (Begins txn) told;
+      left = record { f = (Begins txn); told = told; left = tt };
     }
 
 pub begun_took : (catalog : List Declared) (loads : ℕ) (past journal : List Entry) (f g : Fields) (m : Machine) (actor txn : ℕ)
-    → Holds catalog loads past f m → Comes m actor → HasPlace m → txn_of m.past actor ≡ None
+    → Holds catalog loads past f m → Comes actor → HasPlace m → txn_of m.past actor ≡ None
     → ManagerBegins f.managed g.managed txn → g.clients ≡ record { client = actor; txn = txn } ∷ f.clients → Beside f g → journal ≡ client_entry actor request.Begin (reply.Begun txn) ∷ past
     → Took catalog loads journal g m actor (Client request.Begin) (reply.Begun txn)
 begun_took catalog loads past journal f g m actor txn holds comes place outside begins clients beside is =
@@ -160,14 +321,13 @@ leaves-committed : (o : Opening) (past : List Entry) (f g : Fields) (actor txn l
 leaves-committed o past f g actor txn lsn kept ends inside clients =
     let told = effect-committed lsn in
     record {
-      manager = meets-ended o past f.managed g.managed (client_entry actor request.Commit (reply.Committed lsn)) Commits txn lsn Commit kept.legal kept.manager_meets ends (commit_ends o past (client_entry actor request.Commit (reply.Committed lsn)) txn told inside);
+      manager = λ steady. meets-ended o past f.managed g.managed (client_entry actor request.Commit (reply.Committed lsn)) Commits txn lsn Commit steady kept.manager_meets ends (commit_ends o past (client_entry actor request.Commit (reply.Committed lsn)) txn told inside);
       clients = clients ∙ ap (without actor) kept.clients_are ∙ sym (living_by past (client_entry actor request.Commit (reply.Committed lsn)) Commits told);
-      phase = phase_by past (client_entry actor request.Commit (reply.Committed lsn)) Commits told;
-      started = started_told past (client_entry actor request.Commit (reply.Committed lsn)) Commits told;
+      left = record { f = Commits; told = told; left = tt };
     }
 
 pub committed_took : (catalog : List Declared) (loads : ℕ) (past journal : List Entry) (f g : Fields) (m : Machine) (actor txn lsn : ℕ)
-    → Holds catalog loads past f m → Comes m actor → IsInside m actor txn
+    → Holds catalog loads past f m → Comes actor → IsInside m actor txn
     → Ends f.managed g.managed txn Commit lsn → g.clients ≡ without actor f.clients → Beside f g → journal ≡ client_entry actor request.Commit (reply.Committed lsn) ∷ past
     → Took catalog loads journal g m actor (Client request.Commit) (reply.Committed lsn)
 committed_took catalog loads past journal f g m actor txn lsn holds comes in_txn ends clients beside is =
@@ -180,39 +340,38 @@ committed_took catalog loads past journal f g m actor txn lsn holds comes in_txn
 
 -- ** an undo **
 
-leaves-undone : (o : Opening) (past : List Entry) (f g : Fields) (actor txn lsn : ℕ) → IsKept o past f → OwnMeets f.managed → CanUndoLast f.managed txn → ManagerUndoes f.managed g.managed txn lsn → txn_of past actor ≡ Some txn → g.clients ≡ f.clients
+leaves-undone : (o : Opening) (past : List Entry) (f g : Fields) (actor txn lsn : ℕ) → IsKept o past f → CanUndoLast f.managed txn → ManagerUndoes f.managed g.managed txn lsn → txn_of past actor ≡ Some txn → g.clients ≡ f.clients
     → ClientLeaves o past f g (client_entry actor request.Undo (reply.Undone lsn))
-leaves-undone o past f g actor txn lsn kept own can undoes inside clients =
+leaves-undone o past f g actor txn lsn kept can undoes inside clients =
     let told = effect-undone lsn in
     record {
-      manager = meets-undone o past f.managed g.managed (client_entry actor request.Undo (reply.Undone lsn)) txn lsn kept.manager_meets own can undoes told inside;
+      manager = λ steady. meets-undone o past f.managed g.managed (client_entry actor request.Undo (reply.Undone lsn)) txn lsn steady kept.manager_meets can undoes told inside;
       clients = clients ∙ kept.clients_are ∙ sym (living_by past (client_entry actor request.Undo (reply.Undone lsn)) Undoes told);
-      phase = phase_by past (client_entry actor request.Undo (reply.Undone lsn)) Undoes told;
-      started = started_told past (client_entry actor request.Undo (reply.Undone lsn)) Undoes told;
+      left = record { f = Undoes; told = told; left = tt };
     }
 
 -- something is left to undo where an undo makes a record
-pub data IsLeft (left : List ℕ) : Type 0 where
-  is_left : (lsn : ℕ) (rest : List ℕ) → left ≡ lsn ∷ rest → IsLeft left
+pub data HasLeft (left : List ℕ) : Type 0 where
+  is_left : (lsn : ℕ) (rest : List ℕ) → left ≡ lsn ∷ rest → HasLeft left
 
-left_of : (there : Rows) (log : List Rec) (txn : ℕ) (left : List ℕ) (back : Rec) → undo_last there log txn left ≡ Some back → IsLeft left
+left_of : (there : Rows) (log : List Rec) (txn : ℕ) (left : List ℕ) (back : Rec) → undo_last there log txn left ≡ Some back → HasLeft left
 left_of there log txn [] back made = absurd (cc)
 left_of there log txn (lsn ∷ rest) back made = is_left lsn rest refl
 
 pub undone_took : (catalog : List Declared) (loads : ℕ) (past journal : List Entry) (f g : Fields) (m : Machine) (actor txn lsn : ℕ)
-    → Holds catalog loads past f m → Comes m actor → HasPlace m → txn_of m.past actor ≡ Some txn → OwnMeets f.managed → CanUndoLast f.managed txn
+    → Holds catalog loads past f m → Comes actor → HasPlace m → txn_of m.past actor ≡ Some txn → CanUndoLast f.managed txn
     → ManagerUndoes f.managed g.managed txn lsn → g.clients ≡ f.clients → Beside f g → journal ≡ client_entry actor request.Undo (reply.Undone lsn) ∷ past
     → Took catalog loads journal g m actor (Client request.Undo) (reply.Undone lsn)
-undone_took catalog loads past journal f g m actor txn lsn holds comes place in_txn own can undoes clients beside is =
+undone_took catalog loads past journal f g m actor txn lsn holds comes place in_txn can undoes clients beside is =
     let inside = inside_here catalog loads past f m actor txn holds in_txn in
     let next = next_there (opened catalog loads f.managed.log) past f.managed lsn holds.kept.manager_meets undoes.place in
-    let made = undo-made (opened catalog loads f.managed.log) past f.managed txn undoes.back holds.kept.manager_meets own can undoes.made in
-    let answered = by inside (left_of (row_left (log_of (opened catalog loads f.managed.log) past)) (log_of (opened catalog loads f.managed.log) past) txn (writes_left txn (log_of (opened catalog loads f.managed.log) past)) undoes.back made) in
+    let made = undo-made (opened catalog loads f.managed.log) past f.managed txn undoes.back holds.kept.manager_meets can undoes.made in
+    let answered = by inside (left_of (row_in (opened catalog loads f.managed.log) past (log_of (opened catalog loads f.managed.log) past)) (log_of (opened catalog loads f.managed.log) past) txn (writes_left txn (log_of (opened catalog loads f.managed.log) past)) undoes.back made) in
     client_took catalog loads past journal f g m actor request.Undo (reply.Undone lsn) holds comes (place_here catalog loads past f m (reply.Undone lsn) holds place) (by_one undoes.back undoes.log) is
     (ap reply.Undone next ∙ sym answered)
-    (leaves-undone (opened catalog loads f.managed.log) past f g actor txn lsn holds.kept own can undoes inside clients) beside
+    (leaves-undone (opened catalog loads f.managed.log) past f g actor txn lsn holds.kept can undoes inside clients) beside
   where
-    by : txn_of past actor ≡ Some txn → IsLeft (writes_left txn (log_of (opened catalog loads f.managed.log) past)) → client_reply (opened catalog loads f.managed.log) past actor request.Undo ≡ reply.Undone (next_lsn (opened catalog loads f.managed.log) past)
+    by : txn_of past actor ≡ Some txn → HasLeft (writes_left txn (log_of (opened catalog loads f.managed.log) past)) → client_reply (opened catalog loads f.managed.log) past actor request.Undo ≡ reply.Undone (next_lsn (opened catalog loads f.managed.log) past)
     by inside (is_left first rest left) = undone-answered (opened catalog loads f.managed.log) past actor txn first rest inside left
 
 leaves-aborted : (o : Opening) (past : List Entry) (f g : Fields) (actor txn lsn : ℕ) → IsKept o past f → Ends f.managed g.managed txn Abort lsn → txn_of past actor ≡ Some txn → g.clients ≡ without actor f.clients
@@ -220,14 +379,13 @@ leaves-aborted : (o : Opening) (past : List Entry) (f g : Fields) (actor txn lsn
 leaves-aborted o past f g actor txn lsn kept ends inside clients =
     let told = effect-aborted lsn in
     record {
-      manager = meets-ended o past f.managed g.managed (client_entry actor request.Undo (reply.Aborted lsn)) Aborts txn lsn Abort kept.legal kept.manager_meets ends (abort_ends o past (client_entry actor request.Undo (reply.Aborted lsn)) txn told inside);
+      manager = λ steady. meets-ended o past f.managed g.managed (client_entry actor request.Undo (reply.Aborted lsn)) Aborts txn lsn Abort steady kept.manager_meets ends (abort_ends o past (client_entry actor request.Undo (reply.Aborted lsn)) txn told inside);
       clients = clients ∙ ap (without actor) kept.clients_are ∙ sym (living_by past (client_entry actor request.Undo (reply.Aborted lsn)) Aborts told);
-      phase = phase_by past (client_entry actor request.Undo (reply.Aborted lsn)) Aborts told;
-      started = started_told past (client_entry actor request.Undo (reply.Aborted lsn)) Aborts told;
+      left = record { f = Aborts; told = told; left = tt };
     }
 
 pub aborted_took : (catalog : List Declared) (loads : ℕ) (past journal : List Entry) (f g : Fields) (m : Machine) (actor txn lsn : ℕ)
-    → Holds catalog loads past f m → Comes m actor → HasPlace m → txn_of m.past actor ≡ Some txn
+    → Holds catalog loads past f m → Comes actor → HasPlace m → txn_of m.past actor ≡ Some txn
     → ManagerAborts f.managed g.managed txn lsn → g.clients ≡ without actor f.clients → Beside f g → journal ≡ client_entry actor request.Undo (reply.Aborted lsn) ∷ past
     → Took catalog loads journal g m actor (Client request.Undo) (reply.Aborted lsn)
 aborted_took catalog loads past journal f g m actor txn lsn holds comes place in_txn aborts clients beside is =
@@ -240,22 +398,45 @@ aborted_took catalog loads past journal f g m actor txn lsn holds comes place in
 
 -- ** what a table has **
 
--- the schemas of the manager's tables are the declared ones
-schema_shape : (catalog : List Declared) (table : List ℕ) → schema_in (shapes_of catalog) table ≡ schema_of catalog table
+-- the schemas of the manager's tables are those of its catalog
+pub schema_shape : (catalog : List Declared) (table : List ℕ) → schema_in (shapes_of catalog) table ≡ schema_of catalog table
 schema_shape [] table = refl
 schema_shape (d ∷ catalog) table = by_cases (same_name d.name table) (λ t. rw t refl) (λ f. rw f (schema_shape catalog table))
 
-pub schema_there : (catalog : List Declared) (loads : ℕ) (past : List Entry) (f : Fields) (m : Machine) (table : List ℕ) → Holds catalog loads past f m → schema_in f.managed.shapes table ≡ schema_of catalog table
-schema_there catalog loads past f m table holds = ap (λ shapes. schema_in shapes table) holds.kept.manager_meets.shapes ∙ schema_shape catalog table
+-- before the switch the manager has the declared tables alone
+pub none_shown : (o : Opening) (past : List Entry) → (phase past ≡ Done → ⊥) → o.catalog ++ shown_now o past ≡ o.catalog
+none_shown o past early = by (phase past) early (never_late past)
+  where
+    by : (at : Phase) → (at ≡ Done → ⊥) → (at ≡ Late → ⊥) → o.catalog ++ map adopted (shown_in at (new_tables o.catalog (started past))) ≡ o.catalog
+    by Idle early timely = append-nil o.catalog
+    by Scanning early timely = append-nil o.catalog
+    by Chasing early timely = append-nil o.catalog
+    by Draining early timely = append-nil o.catalog
+    by Late early timely = absurd (timely refl)
+    by Done early timely = absurd (early refl)
 
-pub table_is_there : (catalog : List Declared) (loads : ℕ) (past : List Entry) (f : Fields) (m : Machine) (table : List ℕ) (key : List Value) → Holds catalog loads past f m → IsGood (schema_of catalog table) (λ schema. key_fault schema key) → IsSome (schema_in f.managed.shapes table)
-table_is_there catalog loads past f m table key holds good = subst IsSome (sym (schema_there catalog loads past f m table holds ∙ good.declared)) refl
+-- a table that is open to a transaction has the schema that its name means
+open_there : (o : Opening) (past : List Entry) (actor : ℕ) (table : List ℕ) → closed past actor table ≡ None → schema_of (o.catalog ++ shown_now o past) table ≡ schema_of (known o past) table
+open_there o past actor table opened = by (is_done (phase past))
+  where
+    by : (phase past ≡ Done) ⊎ (phase past ≡ Done → ⊥) → schema_of (o.catalog ++ shown_now o past) table ≡ schema_of (known o past) table
+    by (inl done) =
+        ap (λ at. schema_of (o.catalog ++ map adopted (shown_in at (new_tables o.catalog (started past)))) table) done
+        ∙ sym (ap (λ at. schema_of (o.catalog ++ map adopted (named_in at (new_tables o.catalog (started past)))) table) done)
+    by (inr early) = ap (λ l. schema_of l table) (none_shown o past early) ∙ sym (open_schema o past actor table early (never_late past) opened)
 
--- a table that the catalog declares has what the log leaves
-pub has_left : (catalog : List Declared) (loads : ℕ) (past : List Entry) (f : Fields) (m : Machine) (table : List ℕ) (key : List Value) (layout : Layout) → Holds catalog loads past f m → OwnMeets f.managed → schema_of catalog table ≡ Some layout
-    → has_now f.managed.tables table key ≡ row_left f.managed.log table key
-has_left catalog loads past f m table key layout holds own declared =
-    row-own (opened catalog loads f.managed.log) past f.managed table key holds.kept.manager_meets own (ap is_some (schema_there catalog loads past f m table holds ∙ declared))
+-- a table that is open, of which a client asks what its schema admits
+pub good_there : (o : Opening) (past : List Entry) (m : Managed) (actor : ℕ) (table : List ℕ) (fault : Layout → Option BadRow) → ManagerMeets o past m → (good : IsGood (schema_of (known o past) table) (closed past actor table) fault) → schema_in m.shapes table ≡ Some good.schema
+good_there o past m actor table fault meets good =
+    ap (λ shapes. schema_in shapes table) meets.shapes ∙ schema_shape (o.catalog ++ shown_now o past) table ∙ open_there o past actor table good.opened ∙ good.declared
+
+pub table_is_there : (o : Opening) (past : List Entry) (m : Managed) (actor : ℕ) (table : List ℕ) (fault : Layout → Option BadRow) → ManagerMeets o past m → IsGood (schema_of (known o past) table) (closed past actor table) fault → IsSome (schema_in m.shapes table)
+table_is_there o past m actor table fault meets good = subst IsSome (sym (good_there o past m actor table fault meets good)) refl
+
+-- it has what the entries leave
+pub has_left : (o : Opening) (past : List Entry) (m : Managed) (actor : ℕ) (table : List ℕ) (key : List Value) (fault : Layout → Option BadRow) → ManagerMeets o past m → IsGood (schema_of (known o past) table) (closed past actor table) fault
+    → has_now m.tables table key ≡ row_now o past table key
+has_left o past m actor table key fault meets good = row-there o past m table key meets (table_is_there o past m actor table fault meets good)
 
 -- ** a read **
 
@@ -263,20 +444,18 @@ leaves-read : (o : Opening) (past : List Entry) (f g : Fields) (actor txn : ℕ)
     → txn_of past actor ≡ Some txn → g.clients ≡ f.clients → effect answer ≡ Reads → ClientLeaves o past f g (client_entry actor (request.Read table key) answer)
 leaves-read o past f g actor txn table key row answer kept reads inside clients told =
     record {
-      manager = meets-read o past f.managed g.managed (client_entry actor (request.Read table key) answer) txn table key row kept.manager_meets reads told inside (read-key o.catalog table key);
+      manager = λ steady. meets-read o past f.managed g.managed (client_entry actor (request.Read table key) answer) txn table key row steady kept.manager_meets reads told inside (read-key (known o past) table key);
       clients = clients ∙ kept.clients_are ∙ sym (living_by past (client_entry actor (request.Read table key) answer) Reads told);
-      phase = phase_by past (client_entry actor (request.Read table key) answer) Reads told;
-      started = started_told past (client_entry actor (request.Read table key) answer) Reads told;
+      left = record { f = Reads; told = told; left = tt };
     }
 
 -- a client of a live transaction asks for a key that its table admits
 pub record AsksKey (catalog : List Declared) (loads : ℕ) (past : List Entry) (f : Fields) (m : Machine) (actor txn : ℕ) (table : List ℕ) (key : List Value) : Type 0 where
   pub holds : Holds catalog loads past f m
-  pub comes : Comes m actor
+  pub comes : Comes actor
   pub place : HasPlace m
   pub in_txn : IsInside m actor txn
-  pub own : OwnMeets f.managed
-  pub good : IsGood (schema_of catalog table) (λ schema. key_fault schema key)
+  pub good : IsGood (schema_of (known (opened catalog loads f.managed.log) past) table) (closed past actor table) (λ schema. key_fault schema key)
 
 shown-row : (row : Option (List Value)) → effect (read_answer row) ≡ Reads
 shown-row (Some row) = effect-row row
@@ -291,7 +470,7 @@ shown_took catalog loads past journal f g m actor txn table key row asks reads c
     let rests = rests_here catalog loads past f m txn asks.holds asks.in_txn.resting in
     let meets = asks.holds.kept.manager_meets in
     let free = holder-none (opened catalog loads f.managed.log) past f.managed txn table key Shared meets reads.locks.free in
-    let there : row_now (opened catalog loads f.managed.log) past table key ≡ row = ap (λ l. row_left l table key) (sym meets.log_is) ∙ sym (has_left catalog loads past f m table key asks.good.schema asks.holds asks.own asks.good.declared) ∙ reads.there in
+    let there : row_now (opened catalog loads f.managed.log) past table key ≡ row = sym (has_left (opened catalog loads f.managed.log) past f.managed actor table key (λ schema. key_fault schema key) meets asks.good) ∙ reads.there in
     client_took catalog loads past journal f g m actor (request.Read table key) (read_answer row) asks.holds asks.comes (place_here catalog loads past f m (read_answer row) asks.holds asks.place) (no_longer reads.log) is
     (sym (read-answered (opened catalog loads f.managed.log) past actor txn table key inside rests asks.good
     ∙ ap (λ by. unless_held by (read_answer (row_now (opened catalog loads f.managed.log) past table key))) free ∙ ap read_answer there))
@@ -323,11 +502,10 @@ read_took catalog loads past journal f g m actor txn table key (read.Held by) as
 -- a client of a live transaction asks for a change that its table admits
 pub record AsksChange (catalog : List Declared) (loads : ℕ) (past : List Entry) (f : Fields) (m : Machine) (actor txn : ℕ) (table : List ℕ) (change : Change) : Type 0 where
   pub holds : Holds catalog loads past f m
-  pub comes : Comes m actor
+  pub comes : Comes actor
   pub place : HasPlace m
   pub in_txn : IsInside m actor txn
-  pub own : OwnMeets f.managed
-  pub good : IsGood (schema_of catalog table) (λ schema. change_fault schema change)
+  pub good : IsGood (schema_of (known (opened catalog loads f.managed.log) past) table) (closed past actor table) (λ schema. change_fault schema change)
 
 -- the key that it is about
 abbrev pub key_asked : (catalog : List Declared) (loads : ℕ) (past : List Entry) (f : Fields) (m : Machine) (actor txn : ℕ) (table : List ℕ) (change : Change) → AsksChange catalog loads past f m actor txn table change → List Value
@@ -357,14 +535,13 @@ change_held catalog loads past journal f g m actor txn table change by asks hind
 
 -- what a change is answered that no lock hinders
 free_answered : (catalog : List Declared) (loads : ℕ) (past : List Entry) (f : Fields) (m : Machine) (actor txn : ℕ) (table : List ℕ) (change : Change)
-    → (asks : AsksChange catalog loads past f m actor txn table change) → holder catalog past txn table (key_of_change asks.good.schema change) Exclusive ≡ None
-    → client_reply (opened catalog loads f.managed.log) past actor (asked_for table change) ≡ change_told (opened catalog loads f.managed.log) past change (row_left f.managed.log table (key_of_change asks.good.schema change))
+    → (asks : AsksChange catalog loads past f m actor txn table change) → holder (opened catalog loads f.managed.log) past txn table (key_of_change asks.good.schema change) Exclusive ≡ None
+    → client_reply (opened catalog loads f.managed.log) past actor (asked_for table change) ≡ change_told (opened catalog loads f.managed.log) past change (row_now (opened catalog loads f.managed.log) past table (key_of_change asks.good.schema change))
 free_answered catalog loads past f m actor txn table change asks free =
     let inside = inside_here catalog loads past f m actor txn asks.holds asks.in_txn.inside in
     let rests = rests_here catalog loads past f m txn asks.holds asks.in_txn.resting in
     change-answered (opened catalog loads f.managed.log) past actor txn table change inside rests asks.good
     ∙ ap (λ by. unless_held by (change_told (opened catalog loads f.managed.log) past change (row_now (opened catalog loads f.managed.log) past table (key_of_change asks.good.schema change)))) free
-    ∙ ap (λ l. change_told (opened catalog loads f.managed.log) past change (row_left l table (key_of_change asks.good.schema change))) (sym asks.holds.kept.manager_meets.log_is)
 
 pub change_exists : (catalog : List Declared) (loads : ℕ) (past journal : List Entry) (f g : Fields) (m : Machine) (actor txn : ℕ) (table : List ℕ) (change : Change)
     → (asks : AsksChange catalog loads past f m actor txn table change) → Refuses f.managed g.managed txn table (key_of_change asks.good.schema change) change write.Exists → g.clients ≡ f.clients → Beside f g
@@ -372,7 +549,7 @@ pub change_exists : (catalog : List Declared) (loads : ℕ) (past journal : List
 change_exists catalog loads past journal f g m actor txn table change asks refuses clients beside is =
     let free = holder-none (opened catalog loads f.managed.log) past f.managed txn table (key_of_change asks.good.schema change) Exclusive asks.holds.kept.manager_meets refuses.free in
     change_quiet catalog loads past journal f g m actor txn table change reply.Exists asks refuses.same clients beside is
-    (sym (free_answered catalog loads past f m actor txn table change asks free ∙ told-exists (opened catalog loads f.managed.log) past change (row_left f.managed.log table (key_of_change asks.good.schema change)) (ap (refusal change) (sym (has_left catalog loads past f m table (key_of_change asks.good.schema change) asks.good.schema asks.holds asks.own asks.good.declared)) ∙ refuses.refused)))
+    (sym (free_answered catalog loads past f m actor txn table change asks free ∙ told-exists (opened catalog loads f.managed.log) past change (row_now (opened catalog loads f.managed.log) past table (key_of_change asks.good.schema change)) (ap (refusal change) (sym (has_left (opened catalog loads f.managed.log) past f.managed actor table (key_of_change asks.good.schema change) (λ schema. change_fault schema change) asks.holds.kept.manager_meets asks.good)) ∙ refuses.refused)))
     quiet-exists
 
 pub change_missing : (catalog : List Declared) (loads : ℕ) (past journal : List Entry) (f g : Fields) (m : Machine) (actor txn : ℕ) (table : List ℕ) (change : Change)
@@ -381,21 +558,20 @@ pub change_missing : (catalog : List Declared) (loads : ℕ) (past journal : Lis
 change_missing catalog loads past journal f g m actor txn table change asks refuses clients beside is =
     let free = holder-none (opened catalog loads f.managed.log) past f.managed txn table (key_of_change asks.good.schema change) Exclusive asks.holds.kept.manager_meets refuses.free in
     change_quiet catalog loads past journal f g m actor txn table change reply.Missing asks refuses.same clients beside is
-    (sym (free_answered catalog loads past f m actor txn table change asks free ∙ told-missing (opened catalog loads f.managed.log) past change (row_left f.managed.log table (key_of_change asks.good.schema change)) (ap (refusal change) (sym (has_left catalog loads past f m table (key_of_change asks.good.schema change) asks.good.schema asks.holds asks.own asks.good.declared)) ∙ refuses.refused)))
+    (sym (free_answered catalog loads past f m actor txn table change asks free ∙ told-missing (opened catalog loads f.managed.log) past change (row_now (opened catalog loads f.managed.log) past table (key_of_change asks.good.schema change)) (ap (refusal change) (sym (has_left (opened catalog loads f.managed.log) past f.managed actor table (key_of_change asks.good.schema change) (λ schema. change_fault schema change) asks.holds.kept.manager_meets asks.good)) ∙ refuses.refused)))
     quiet-missing
 
-leaves-written : (o : Opening) (past : List Entry) (f g : Fields) (actor txn : ℕ) (table : List ℕ) (change : Change) (layout : Layout) (lsn : ℕ) → IsKept o past f → schema_of o.catalog table ≡ Some layout
-    → ManagerWrites f.managed g.managed txn table (key_of_change layout change) (image_of change) lsn → has_now f.managed.tables table (key_of_change layout change) ≡ row_left f.managed.log table (key_of_change layout change)
+leaves-written : (o : Opening) (past : List Entry) (f g : Fields) (actor txn : ℕ) (table : List ℕ) (change : Change) (layout : Layout) (lsn : ℕ) → IsKept o past f → schema_of (known o past) table ≡ Some layout
+    → ManagerWrites f.managed g.managed txn table (key_of_change layout change) (image_of change) lsn → has_now f.managed.tables table (key_of_change layout change) ≡ row_now o past table (key_of_change layout change)
     → txn_of past actor ≡ Some txn → g.clients ≡ f.clients
     → ClientLeaves o past f g (client_entry actor (asked_for table change) (reply.Done lsn))
 leaves-written o past f g actor txn table change layout lsn kept declared writes was inside clients =
     let told = effect-done lsn in
     record {
-      manager = meets-written o past f.managed g.managed (client_entry actor (asked_for table change) (reply.Done lsn)) txn table (key_of_change layout change) (image_of change) lsn kept.manager_meets writes was told inside
-          (change-key o.catalog table layout change declared) (change-record o.catalog (log_of o past) txn table layout change declared);
+      manager = λ steady. meets-written o past f.managed g.managed (client_entry actor (asked_for table change) (reply.Done lsn)) txn table (key_of_change layout change) (image_of change) lsn steady kept.manager_meets writes was told inside
+          (change-key (known o past) table layout change declared) (change-record (known o past) (row_in o past (log_of o past)) txn table layout change declared);
       clients = clients ∙ kept.clients_are ∙ sym (living_by past (client_entry actor (asked_for table change) (reply.Done lsn)) Writes told);
-      phase = phase_by past (client_entry actor (asked_for table change) (reply.Done lsn)) Writes told;
-      started = started_told past (client_entry actor (asked_for table change) (reply.Done lsn)) Writes told;
+      left = record { f = Writes; told = told; left = tt };
     }
 
 pub change_done : (catalog : List Declared) (loads : ℕ) (past journal : List Entry) (f g : Fields) (m : Machine) (actor txn : ℕ) (table : List ℕ) (change : Change) (lsn : ℕ)
@@ -408,8 +584,8 @@ change_done catalog loads past journal f g m actor txn table change lsn asks mak
     let free = holder-none (opened catalog loads f.managed.log) past f.managed txn table (key_of_change asks.good.schema change) Exclusive meets makes.writes.locks.free in
     client_took catalog loads past journal f g m actor (asked_for table change) (reply.Done lsn) asks.holds asks.comes (place_here catalog loads past f m (reply.Done lsn) asks.holds asks.place)
     (by_one (record { txn = txn; body = Write table (key_of_change asks.good.schema change) (has_now f.managed.tables table (key_of_change asks.good.schema change)) (image_of change) }) makes.writes.log) is
-    (ap reply.Done next ∙ sym (free_answered catalog loads past f m actor txn table change asks free ∙ told-done (opened catalog loads f.managed.log) past change (row_left f.managed.log table (key_of_change asks.good.schema change)) (ap (refusal change) (sym (has_left catalog loads past f m table (key_of_change asks.good.schema change) asks.good.schema asks.holds asks.own asks.good.declared)) ∙ makes.allowed)))
-    (leaves-written (opened catalog loads f.managed.log) past f g actor txn table change asks.good.schema lsn asks.holds.kept asks.good.declared makes.writes (has_left catalog loads past f m table (key_of_change asks.good.schema change) asks.good.schema asks.holds asks.own asks.good.declared) inside clients) beside
+    (ap reply.Done next ∙ sym (free_answered catalog loads past f m actor txn table change asks free ∙ told-done (opened catalog loads f.managed.log) past change (row_now (opened catalog loads f.managed.log) past table (key_of_change asks.good.schema change)) (ap (refusal change) (sym (has_left (opened catalog loads f.managed.log) past f.managed actor table (key_of_change asks.good.schema change) (λ schema. change_fault schema change) asks.holds.kept.manager_meets asks.good)) ∙ makes.allowed)))
+    (leaves-written (opened catalog loads f.managed.log) past f g actor txn table change asks.good.schema lsn asks.holds.kept asks.good.declared makes.writes (has_left (opened catalog loads f.managed.log) past f.managed actor table (key_of_change asks.good.schema change) (λ schema. change_fault schema change) asks.holds.kept.manager_meets asks.good) inside clients) beside
 
 -- whatever the manager answers to a change
 changed_took : (catalog : List Declared) (loads : ℕ) (past journal : List Entry) (f g : Fields) (m : Machine) (actor txn : ℕ) (table : List ℕ) (change : Change) (answer : TxnWrite)
@@ -424,7 +600,7 @@ pub write_took : (catalog : List Declared) (loads : ℕ) (past journal : List En
     → (asks : AsksChange catalog loads past f m actor txn table change) → AnswersWrite f.managed g.managed txn table change answer → g.clients ≡ f.clients → Beside f g
     → journal ≡ client_entry actor (asked_for table change) (write_told answer) ∷ past → Took catalog loads journal g m actor (Client (asked_for table change)) (write_told answer)
 write_took catalog loads past journal f g m actor txn table change answer asks answers clients beside is =
-    changed_took catalog loads past journal f g m actor txn table change answer asks (answers asks.good.schema (schema_there catalog loads past f m table asks.holds ∙ asks.good.declared)) clients beside is
+    changed_took catalog loads past journal f g m actor txn table change answer asks (answers asks.good.schema (good_there (opened catalog loads f.managed.log) past f.managed actor table (λ schema. change_fault schema change) asks.holds.kept.manager_meets asks.good)) clients beside is
 
 fits : (layout : Layout) (change : Change) → change_fault layout change ≡ None → FitsSchema layout change
 fits layout (Insert row) good = good
@@ -432,5 +608,5 @@ fits layout (Replace row) good = good
 fits layout (Delete key) good = tt
 
 -- the manager can be asked for it
-pub can_change : (catalog : List Declared) (loads : ℕ) (past : List Entry) (f : Fields) (m : Machine) (table : List ℕ) (change : Change) → Holds catalog loads past f m → IsGood (schema_of catalog table) (λ schema. change_fault schema change) → CanChange f.managed.shapes table change
-can_change catalog loads past f m table change holds good = record { layout = good.schema; there = schema_there catalog loads past f m table holds ∙ good.declared; fits = fits good.schema change good.admitted }
+pub can_change : (o : Opening) (past : List Entry) (m : Managed) (actor : ℕ) (table : List ℕ) (change : Change) → ManagerMeets o past m → IsGood (schema_of (known o past) table) (closed past actor table) (λ schema. change_fault schema change) → CanChange m.shapes table change
+can_change o past m actor table change meets good = record { layout = good.schema; there = good_there o past m actor table (λ schema. change_fault schema change) meets good; fits = fits good.schema change good.admitted }

@@ -74,10 +74,10 @@ least_some p (n ∷ ns) by passes below is = by_cases (n == by) this (other (λ 
 
 -- whether another transaction stands against a request, by the journal
 abbrev pub against : Opening → List Entry → ℕ → List ℕ → List Value → Mode → ℕ → Bool
-against o past txn table key mode other = not (txn == other) && is_against (lock_of o.catalog past other table key) mode
+against o past txn table key mode other = not (txn == other) && is_against (lock_of o past other table key) mode
 
 pub holder-numbers : (o : Opening) (past : List Entry) (txn : ℕ) (table : List ℕ) (key : List Value) (mode : Mode)
-    → holder o.catalog past txn table key mode ≡ least (filter (against o past txn table key mode) (numbers (living past)))
+    → holder o past txn table key mode ≡ least (filter (against o past txn table key mode) (numbers (living past)))
 holder-numbers o past txn table key mode = ap least (map_filter (λ (l : Living). l.txn) (against o past txn table key mode) (living past))
 
 against_is : (o : Opening) (past : List Entry) (m : Managed) (txn : ℕ) (table : List ℕ) (key : List Value) (mode : Mode) (other : ℕ) → ManagerMeets o past m
@@ -92,18 +92,18 @@ held_against (Some here) b mode is = (here, refl)
 
 -- the holder that a manager names is the journal's
 pub holder-named : (o : Opening) (past : List Entry) (m : Managed) (txn : ℕ) (table : List ℕ) (key : List Value) (mode : Mode) (by : ℕ) → Legal o past → ManagerMeets o past m
-    → IsLeastOther m.locks txn table key mode (Some by) → holder o.catalog past txn table key mode ≡ Some by
+    → IsLeastOther m.locks txn table key mode (Some by) → holder o past txn table key mode ≡ Some by
 holder-named o past m txn table key mode by legal meets named =
     let p = against o past txn table key mode in
     let passes : against o past txn table key mode by ≡ true = sym (against_is o past m txn table key mode by meets) ∙ named.against in
-    let lock = held_against (lock_of o.catalog past by table key) (not (txn == by)) mode passes in
+    let lock = held_against (lock_of o past by table key) (not (txn == by)) mode passes in
     let lives = locked_live o past by table key lock.0 legal lock.1 in
     holder-numbers o past txn table key mode
     ∙ least_some (against o past txn table key mode) (numbers (living past)) by passes (λ n below. sym (against_is o past m txn table key mode n meets) ∙ named.least n below) lives
 
 -- and where it names none, there is none
 pub holder-none : (o : Opening) (past : List Entry) (m : Managed) (txn : ℕ) (table : List ℕ) (key : List Value) (mode : Mode) → ManagerMeets o past m
-    → IsLeastOther m.locks txn table key mode None → holder o.catalog past txn table key mode ≡ None
+    → IsLeastOther m.locks txn table key mode None → holder o past txn table key mode ≡ None
 holder-none o past m txn table key mode meets none =
     holder-numbers o past txn table key mode
     ∙ least_none (against o past txn table key mode) (numbers (living past)) (λ n. sym (against_is o past m txn table key mode n meets) ∙ none n)

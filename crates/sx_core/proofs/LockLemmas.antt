@@ -2,12 +2,12 @@
 use Rattle.std.proofs.Common.{◌≡◌, ◌≤◌, ◌+◌, ◌==◌, ◌&&◌, ◌||◌, ℕ, Bool, true, false, List, [], ◌∷◌, Option, Some, None, refl, sym, ap, ◌∙◌, subst, arith, if◌then◌else◌}
 use Rattle.std.proofs.lemmas.Bool.Decides.{nat_tests}
 use Rattle.sx_values.specs.declared.value.Value.{Value}
-use Rattle.sx_values.specs.declared.catalog.Declared.{Declared}
 use Rattle.sx_locks.specs.declared.mode.Mode.{Mode}
 use Rattle.sx_journal.specs.declared.entry.Entry.{Entry}
 use Rattle.sx_model.specs.Effects.{Effect, Nothing, Reads, Begins, Writes, Undoes, Commits, Aborts, Starts, Sees, Fetches, Checks, Conflicts, Violates, Switches, Cancels, effect}
 use Rattle.sx_model.specs.Openings.{Opening}
 use Rattle.sx_model.specs.Leaves.{living, living_after, without, txn_of, begun, begun_after}
+use Rattle.sx_model.specs.Known.{known}
 use Rattle.sx_model.specs.Held.{lock_after, lock_of, is_txn, is_ending, undoes}
 use Rattle.sx_model.specs.Clients.{AreLiving}
 use Rattle.sx_model.specs.Logs.{next_lsn}
@@ -19,25 +19,25 @@ use Rattle.sx_model.proofs.Outcomes.{Outcome, outcome}
 use Rattle.sx_core.proofs.LivingLemmas.{numbers, among, ended_same, txn_is_among, among_but}
 
 -- the lock behind an entry with this effect
-abbrev pub lock_behind : List Declared → List Entry → Entry → Effect → ℕ → List ℕ → List Value → Option Mode
-lock_behind catalog past e f t table key =
-    if is_txn t (txn_of past e.actor) then lock_after catalog e.event f table key (lock_of catalog past t table key) else lock_of catalog past t table key
+abbrev pub lock_behind : Opening → List Entry → Entry → Effect → ℕ → List ℕ → List Value → Option Mode
+lock_behind o past e f t table key =
+    if is_txn t (txn_of past e.actor) then lock_after (known o past) e.event f table key (lock_of o past t table key) else lock_of o past t table key
 
-pub lock_by : (catalog : List Declared) (past : List Entry) (e : Entry) (f : Effect) (t : ℕ) (table : List ℕ) (key : List Value) → effect e.reply ≡ f
-    → lock_of catalog (e ∷ past) t table key ≡ lock_behind catalog past e f t table key
-lock_by catalog past e f t table key told = ap (λ g. lock_behind catalog past e g t table key) told
+pub lock_by : (o : Opening) (past : List Entry) (e : Entry) (f : Effect) (t : ℕ) (table : List ℕ) (key : List Value) → effect e.reply ≡ f
+    → lock_of o (e ∷ past) t table key ≡ lock_behind o past e f t table key
+lock_by o past e f t table key told = ap (λ g. lock_behind o past e g t table key) told
 
 either : {T : Type 0} (b : Bool) (x : T) → (if b then x else x) ≡ x
 either true x = refl
 either false x = refl
 
 -- an effect that leaves each lock
-pub lock-same : (catalog : List Declared) (past : List Entry) (e : Entry) (f : Effect) (t : ℕ) (table : List ℕ) (key : List Value) → effect e.reply ≡ f
-    → lock_after catalog e.event f table key (lock_of catalog past t table key) ≡ lock_of catalog past t table key
-    → lock_of catalog (e ∷ past) t table key ≡ lock_of catalog past t table key
-lock-same catalog past e f t table key told stays =
-    lock_by catalog past e f t table key told
-    ∙ (ap (λ held. if is_txn t (txn_of past e.actor) then held else lock_of catalog past t table key) stays ∙ either (is_txn t (txn_of past e.actor)) (lock_of catalog past t table key))
+pub lock-same : (o : Opening) (past : List Entry) (e : Entry) (f : Effect) (t : ℕ) (table : List ℕ) (key : List Value) → effect e.reply ≡ f
+    → lock_after (known o past) e.event f table key (lock_of o past t table key) ≡ lock_of o past t table key
+    → lock_of o (e ∷ past) t table key ≡ lock_of o past t table key
+lock-same o past e f t table key told stays =
+    lock_by o past e f t table key told
+    ∙ (ap (λ held. if is_txn t (txn_of past e.actor) then held else lock_of o past t table key) stays ∙ either (is_txn t (txn_of past e.actor)) (lock_of o past t table key))
 
 -- ** who has a lock lives **
 
@@ -73,32 +73,34 @@ locked_by : (past : List Entry) (e : Entry) (f : Effect) (t : ℕ) → effect e.
 locked_by past e f t told is = subst (λ g. AmongAfter past e g t) (sym told) is
 
 locked_next : (o : Opening) (past : List Entry) (e : Entry) (t : ℕ) (table : List ℕ) (key : List Value) (mode : Mode) → AreLiving (begun past) (living past) → Outcome o past e
-    → (lock_of o.catalog past t table key ≡ Some mode → among (numbers (living past)) t ≡ true)
-    → lock_of o.catalog (e ∷ past) t table key ≡ Some mode → among (numbers (living (e ∷ past))) t ≡ true
+    → (lock_of o past t table key ≡ Some mode → among (numbers (living past)) t ≡ true)
+    → lock_of o (e ∷ past) t table key ≡ Some mode → among (numbers (living (e ∷ past))) t ≡ true
 locked_next o past e t table key mode differ (out.rests told) was is =
-    locked_by past e Nothing t told (was (sym (lock-same o.catalog past e Nothing t table key told refl) ∙ is))
+    locked_by past e Nothing t told (was (sym (lock-same o past e Nothing t table key told refl) ∙ is))
 locked_next o past e t table key mode differ (out.begins b) was is =
-    locked_by past e (Begins (begun past + 1)) t b.told (among_more (begun past + 1) (numbers (living past)) t (was (sym (lock-same o.catalog past e (Begins (begun past + 1)) t table key b.told refl) ∙ is)))
+    locked_by past e (Begins (begun past + 1)) t b.told (among_more (begun past + 1) (numbers (living past)) t (was (sym (lock-same o past e (Begins (begun past + 1)) t table key b.told refl) ∙ is)))
 locked_next o past e t table key mode differ (out.reads r) was is =
-    locked_by past e Reads t r.told (lock_got past t r.txn e.actor (lock_of o.catalog past t table key) (lock_after o.catalog e.event Reads table key (lock_of o.catalog past t table key)) mode r.inside was (sym (lock_by o.catalog past e Reads t table key r.told) ∙ is))
+    locked_by past e Reads t r.told (lock_got past t r.txn e.actor (lock_of o past t table key) (lock_after (known o past) e.event Reads table key (lock_of o past t table key)) mode r.inside was (sym (lock_by o past e Reads t table key r.told) ∙ is))
 locked_next o past e t table key mode differ (out.writes w) was is =
-    locked_by past e Writes t w.told (lock_got past t w.txn e.actor (lock_of o.catalog past t table key) (lock_after o.catalog e.event Writes table key (lock_of o.catalog past t table key)) mode w.inside was (sym (lock_by o.catalog past e Writes t table key w.told) ∙ is))
+    locked_by past e Writes t w.told (lock_got past t w.txn e.actor (lock_of o past t table key) (lock_after (known o past) e.event Writes table key (lock_of o past t table key)) mode w.inside was (sym (lock_by o past e Writes t table key w.told) ∙ is))
 locked_next o past e t table key mode differ (out.commits c) was is =
-    locked_by past e Commits t c.told (lock_freed past (begun past) t c.txn e.actor (lock_of o.catalog past t table key) mode differ c.inside was (sym (lock_by o.catalog past e Commits t table key c.told) ∙ is))
+    locked_by past e Commits t c.told (lock_freed past (begun past) t c.txn e.actor (lock_of o past t table key) mode differ c.inside was (sym (lock_by o past e Commits t table key c.told) ∙ is))
 locked_next o past e t table key mode differ (out.aborts a) was is =
-    locked_by past e Aborts t a.told (lock_freed past (begun past) t a.txn e.actor (lock_of o.catalog past t table key) mode differ a.inside was (sym (lock_by o.catalog past e Aborts t table key a.told) ∙ is))
+    locked_by past e Aborts t a.told (lock_freed past (begun past) t a.txn e.actor (lock_of o past t table key) mode differ a.inside was (sym (lock_by o past e Aborts t table key a.told) ∙ is))
 locked_next o past e t table key mode differ (out.undoes u) was is =
-    locked_by past e Undoes t u.told (was (sym (lock-same o.catalog past e Undoes t table key u.told refl) ∙ is))
+    locked_by past e Undoes t u.told (was (sym (lock-same o past e Undoes t table key u.told refl) ∙ is))
 locked_next o past e t table key mode differ (out.starts s) was is =
-    locked_by past e (Starts (next_lsn o past)) t s.told (was (sym (lock-same o.catalog past e (Starts (next_lsn o past)) t table key s.told refl) ∙ is))
+    locked_by past e (Starts (next_lsn o past)) t s.told (was (sym (lock-same o past e (Starts (next_lsn o past)) t table key s.told refl) ∙ is))
 locked_next o past e t table key mode differ (out.sees s) was is =
-    locked_by past e (Sees s.lsns s.last) t s.told (was (sym (lock-same o.catalog past e (Sees s.lsns s.last) t table key s.told refl) ∙ is))
+    locked_by past e (Sees s.lsns s.last) t s.told (was (sym (lock-same o past e (Sees s.lsns s.last) t table key s.told refl) ∙ is))
 locked_next o past e t table key mode differ (out.conflicts a told) was is =
-    locked_by past e Conflicts t told (was (sym (lock-same o.catalog past e Conflicts t table key told refl) ∙ is))
-locked_next o past e t table key mode differ (out.switches a told) was is =
-    locked_by past e Switches t told (was (sym (lock-same o.catalog past e Switches t table key told refl) ∙ is))
+    locked_by past e Conflicts t told (was (sym (lock-same o past e Conflicts t table key told refl) ∙ is))
+locked_next o past e t table key mode differ (out.fetches f) was is =
+    locked_by past e (Fetches f.place) t f.told (was (sym (lock-same o past e (Fetches f.place) t table key f.told refl) ∙ is))
+locked_next o past e t table key mode differ (out.switches w) was is =
+    locked_by past e Switches t w.told (was (sym (lock-same o past e Switches t table key w.told refl) ∙ is))
 
-pub locked_live : (o : Opening) (past : List Entry) (t : ℕ) (table : List ℕ) (key : List Value) (mode : Mode) → Legal o past → lock_of o.catalog past t table key ≡ Some mode → among (numbers (living past)) t ≡ true
+pub locked_live : (o : Opening) (past : List Entry) (t : ℕ) (table : List ℕ) (key : List Value) (mode : Mode) → Legal o past → lock_of o past t table key ≡ Some mode → among (numbers (living past)) t ≡ true
 locked_live o [] t table key mode legal is = absurd (cc)
 locked_live o (e ∷ past) t table key mode legal is =
     locked_next o past e t table key mode (legal_living o past legal.0) (outcome o past e legal) (locked_live o past t table key mode legal.0) is

@@ -1,5 +1,5 @@
 -- The machine before its first event: its tables are filled with the loaded rows, one by one, up to the first faulty one.
-use Rattle.std.proofs.Common.{◌≡◌, ◌≤◌, ◌<◌, ◌+◌, ◌-◌, ◌∷◌, ◌++◌, ◌⊎◌, [], ℕ, zero, suc, List, Bool, true, false, ◌||◌, length, map, take, reverse, get_or, Option, Some, None, option_map, Result, Ok, Err, is_some, IsSomeAnd, inl, inr, refl, sym, ◌∙◌, ap, subst, arith, if◌then◌else◌}
+use Rattle.std.proofs.Common.{◌≡◌, ◌≤◌, ◌<◌, ◌+◌, ◌-◌, ◌∷◌, ◌++◌, ◌⊎◌, [], ℕ, zero, suc, List, Bool, true, false, ◌||◌, length, map, take, reverse, get_or, Option, Some, None, option_map, Result, Ok, Err, is_some, IsSome, IsSomeAnd, inl, inr, refl, sym, ◌∙◌, ap, subst, arith, if◌then◌else◌}
 use Rattle.std.specs.Result.{IsErrAnd}
 use Rattle.std.specs.List.{AllByRecursion, IsDistinct, list_any}
 use Rattle.std.proofs.lemmas.List.{append_assoc, append-nil, length-map, reverse-append, map-append}
@@ -21,7 +21,7 @@ use Rattle.sx_heap.specs.declared.tables.NamedTable.{NamedTable}
 use Rattle.sx_heap.specs.Relations.{Relation, row_at}
 use Rattle.sx_heap.specs.NamedTables.{AreNamedApart, table_named}
 use Rattle.sx_locks.specs.Locks.{mode_held}
-use Rattle.sx_txn.specs.Managed.{Managed, AreTables, shape_of, is_live}
+use Rattle.sx_txn.specs.Managed.{Managed, AreTables, shape_of, schema_in, is_live}
 use Rattle.sx_sync.specs.declared.Phase.TheVariants.{Idle}
 use Rattle.sx_journal.specs.declared.entry.Entry.{Entry}
 use Rattle.sx_model.specs.Openings.{opening, load_record, key_in, key_under}
@@ -32,9 +32,18 @@ use Rattle.sx_core.specs.declared.make.MakeFault.TheVariants.{Memory, TooManyRow
 use Rattle.sx_core.specs.declared.make.Base.{Base}
 use Rattle.sx_core.specs.Loading.{empty_table, PutsLoad, crowded, repeated_at, put_fault, load_fault, first_load_fault, make_fault, AreLoaded, Loads, Made}
 use Rattle.sx_core.specs.Machines.{Machine}
-use Rattle.sx_core.specs.Kept.{Fields, IsKept, shapes_of}
+use Rattle.sx_core.specs.Kept.{Fields, IsKept, shapes_of, stored_in}
+use Rattle.sx_values.specs.Names.{same_name}
+use Rattle.sx_model.specs.LoadRecords.{IsOpened}
+use Rattle.sx_model.specs.NewRows.{state_from, state_in, first_in}
+use Rattle.sx_model.proofs.TestLaws.{by_cases}
+use Rattle.sx_model.proofs.FitLaws.{first_none}
+use Rattle.sx_model.proofs.NowLaws.{from_none}
+use Rattle.sx_model.proofs.RestLaws.{opening_opened}
+use Rattle.sx_core.proofs.StoredLemmas.{row_of, stored-is}
+use Rattle.sx_core.proofs.ViewLemmas.{shapes-long}
 use Rattle.sx_core.proofs.LivingLemmas.{alive_numbers}
-use Rattle.sx_core.proofs.TableLemmas.{meets_named, meets_unnamed}
+use Rattle.sx_core.proofs.TableLemmas.{meets_named, meets_unnamed, found_meets}
 use Rattle.sx_core.proofs.WriteLemmas.{tables_meet-write}
 
 name_at : (P : List ℕ → Type 0) (declared : List Declared) (i : ℕ) (d : Declared) → AllByRecursion P (table_names declared) → i < length declared → d ≡ get_or declared i d → P d.name
@@ -266,21 +275,46 @@ pub record IsNew (managed : Managed) (base : Base) : Type 0 where
   pub living : managed.living ≡ []
   pub begun : managed.begun ≡ 0
 
+-- a table of a new manager has what the log leaves
+new_rows : (catalog : List Declared) (loads : List Rec) (tables : List NamedTable) (name : List ℕ) (key : List Value) → AreTables loads (shapes_of catalog) tables → IsSome (schema_in (map shape_of tables) name)
+    → stored_in tables name key ≡ state_in (record { catalog = catalog; loads = loads }) [] loads name key
+new_rows catalog loads tables name key meet there = by (table_named tables name) refl (unfound tables name there)
+  where
+    unfound : (ts : List NamedTable) (n : List ℕ) → IsSome (schema_in (map shape_of ts) n) → IsSome (table_named ts n)
+    unfound [] n some = absurd (cc)
+    unfound (t ∷ ts) n some = by_cases (same_name t.name n) (λ is. rw is refl) (λ away. rw away (unfound ts n (rw away at some)))
+
+    first : first_in (record { catalog = catalog; loads = loads }) [] loads name key ≡ None
+    first = first_none (record { catalog = catalog; loads = loads }) [] loads name key (λ done. cc)
+
+    by : (found : Option Relation) → table_named tables name ≡ found → IsSome found → stored_in tables name key ≡ state_in (record { catalog = catalog; loads = loads }) [] loads name key
+    by None is some = absurd (cc)
+    by (Some table) is some =
+        stored-is tables name key ∙ ap (λ f. row_of f key) is ∙ found_meets catalog loads tables name table meet is key
+        ∙ sym (ap (λ f. state_from f loads name key) first ∙ from_none loads name key)
+
 -- what the machine keeps before its first event
 pub made_kept : (catalog : List Declared) (rows : List Load) (base : Base) (loads : ℕ) (past : List Entry) (f : Fields)
-    → AreLoaded catalog rows base → IsNew f.managed base → loads ≡ length base.log.newest → past ≡ [] → f.clients ≡ [] → f.new_tables ≡ [] → f.now ≡ Idle
+    → AreLoaded catalog rows base → IsNew f.managed base → f.managed.tables ≡ base.tables → loads ≡ length base.log.newest → past ≡ [] → f.clients ≡ [] → f.known ≡ catalog → f.now ≡ Idle → f.spec ≡ None → f.position ≡ 0
     → (loads ≤ length f.managed.log) × IsKept (record { catalog = catalog; loads = oldest loads f.managed.log }) past f
-made_kept catalog rows base loads past f are new counts none nobody no_tables idle =
+made_kept catalog rows base loads past f are new are_tables counts none nobody known idle unstarted start =
     let counted : loads ≡ length f.managed.log = counts ∙ ap length (sym new.log) in
     let all = all_oldest f.managed.log loads counted in
     let fit = all_reverse (λ (r : Rec). FitsTables (schema_of catalog) r.body) (map (load_record catalog) rows) (all_load_fit catalog [] rows are.faultless) in
+    let shapes : f.managed.shapes ≡ shapes_of catalog = new.shapes ∙ are_shapes catalog base.log.newest base.tables are.meet in
+    let opened : IsOpened (record { catalog = catalog; loads = oldest loads f.managed.log }) = subst (λ l. IsOpened (record { catalog = catalog; loads = l })) (sym (all ∙ new.log ∙ are.logged)) (opening_opened catalog rows) in
     let kept : IsKept (record { catalog = catalog; loads = oldest loads f.managed.log }) [] f = record {
+      opened = opened;
       loads_fit = subst (AllByRecursion (λ (r : Rec). FitsTables (schema_of catalog) r.body)) (sym (all ∙ new.log ∙ are.logged)) fit;
       legal = tt;
       manager_meets = record {
-        shapes = new.shapes ∙ are_shapes catalog base.log.newest base.tables are.meet;
-        own = new.own ∙ sym (ap length new.shapes ∙ length-map base.tables shape_of);
+        shapes = shapes ∙ ap shapes_of (sym (append-nil catalog));
+        own = new.own ∙ sym (length-map base.tables shape_of) ∙ ap length (are_shapes catalog base.log.newest base.tables are.meet) ∙ shapes-long catalog;
         log_is = sym all;
+        rows = λ name key there.
+            ap (λ ts. stored_in ts name key) are_tables
+            ∙ new_rows catalog base.log.newest base.tables name key are.meet (subst (λ l. IsSome (schema_in l name)) new.shapes there)
+            ∙ ap (λ l. state_in (record { catalog = catalog; loads = l }) [] l name key) (sym (all ∙ new.log));
         begun = new.begun;
         living = ap alive_numbers new.living;
         ending = λ txn lives. absurd (false≢true (sym (ap (λ l. is_live l txn) new.living) ∙ lives));
@@ -288,8 +322,11 @@ made_kept catalog rows base loads past f are new counts none nobody no_tables id
       };
       clients_are = nobody;
       room = (let e = ap length nobody in omega arith);
-      phase_is = sym idle;
-      transform_meets = rw idle (record { none = refl; no_tables = no_tables });
+      phase_is = idle;
+      known_is = known ∙ sym (append-nil catalog);
+      spec_is = unstarted;
+      position_is = start;
+      scan_meets = tt;
     } in
     (omega arith, rw none kept)
 
@@ -313,3 +350,7 @@ crowded_fails catalog rows name told is same =
 pub loading_fault : (catalog : List Declared) (rows : List Load) (fault : MakeFault) → crowded catalog rows ≡ None → (fault ≡ Memory) ⊎ (first_load_fault catalog [] rows ≡ Some fault) → Made catalog rows (Err fault)
 loading_fault catalog rows fault uncrowded (inl memory) = inl memory
 loading_fault catalog rows fault uncrowded (inr faulty) = inr (ap (λ name. or_later (option_map TooManyRows name) (first_load_fault catalog [] rows)) uncrowded ∙ faulty)
+
+pub nothing_left : {X : Type 0} (l : List X) → length l ≡ 0 → l ≡ []
+nothing_left [] none = refl
+nothing_left (x ∷ l) none = absurd (omega arith)

@@ -1,12 +1,11 @@
 -- What a client must be answered, outcome by outcome: over plain variables.
 use Rattle.std.proofs.lemmas.Bool.{false≢true}
-use Rattle.std.proofs.Common.{◌≡◌, ◌+◌, ◌∷◌, [], ℕ, Bool, true, false, List, Option, Some, None, option_map, refl, sym, ◌∙◌, ap, if◌then◌else◌}
+use Rattle.std.proofs.Common.{◌≡◌, ◌+◌, ◌∷◌, [], ℕ, Bool, true, false, List, Option, Some, None, IfSome, option_map, refl, sym, ◌∙◌, ap, if◌then◌else◌}
 use Rattle.sx_values.specs.declared.value.Value.{Value}
 use Rattle.sx_values.specs.declared.schema.BadRow.{BadRow}
 use Rattle.sx_values.specs.declared.catalog.Declared.{Declared}
 use Rattle.sx_values.specs.Layouts.{Layout, key_fault}
 use Rattle.sx_values.specs.Catalogs.{schema_of}
-use Rattle.sx_log.specs.declared.record.Rec.{Rec}
 use Rattle.sx_log.specs.State.{is_place}
 use Rattle.sx_log.specs.Undoing.{writes_left}
 use Rattle.sx_locks.specs.declared.mode.Mode.TheVariants.{Shared, Exclusive}
@@ -23,10 +22,20 @@ use Rattle.sx_journal.specs.declared.entry.Reply.{Reply}
 use Rattle.sx_journal.specs.declared.entry.Reply.TheVariants as reply
 use Rattle.sx_model.specs.Effects.{Nothing, Reads, Begins, Writes, Undoes, Commits, Aborts, effect}
 use Rattle.sx_model.specs.Openings.{Opening}
-use Rattle.sx_model.specs.Leaves.{txn_of, begun}
+use Rattle.sx_lists.specs.Answers.{or_later}
+use Rattle.sx_values.specs.Names.{has_name}
+use Rattle.sx_ops.specs.Operators.{sources_of, targets_of}
+use Rattle.sx_log.specs.Undoing.{Rows}
+use Rattle.sx_sync.specs.declared.Phase.{Phase}
+use Rattle.sx_sync.specs.declared.Phase.TheVariants.{Idle, Scanning, Chasing, Draining, Late, Done}
+use Rattle.sx_model.specs.Known.{known}
+use Rattle.sx_model.specs.Closed.{closed, closed_in, closed_by}
+use Rattle.sx_model.specs.Switches.{has_lock_on}
+use Rattle.sx_model.specs.Leaves.{Started, started, phase, txn_of, begun}
+use Rattle.sx_model.proofs.Outcomes.{IsRefusal, closed_refuses}
 use Rattle.sx_model.specs.Logs.{log_of, next_lsn, row_now, write_record, request_record, event_record}
 use Rattle.sx_model.specs.Held.{is_ending, holder, asks_for_key, is_for_key}
-use Rattle.sx_model.specs.Replies.{unless_bad, unless_held, read_answer, insert_answer, change_answer, read_reply, insert_reply, update_reply, delete_reply, undo_reply, undo_answer, reply_outside, reply_inside, reply_ending, client_reply, reply_in}
+use Rattle.sx_model.specs.Replies.{unless_closed, unless_bad, unless_held, read_answer, insert_answer, change_answer, read_reply, insert_reply, update_reply, delete_reply, undo_reply, undo_answer, reply_outside, reply_inside, reply_ending, client_reply, reply_in}
 use Rattle.sx_model.specs.Schedules.{commits_now}
 use Rattle.sx_model.specs.Legal.{is_committed}
 use Rattle.sx_core.specs.Asked.{asked_for}
@@ -35,7 +44,7 @@ use Rattle.sx_core.specs.Refusals.{key_refused, change_fault, change_refused}
 -- ** outside a transaction **
 
 outside-answered : (o : Opening) (past : List Entry) (actor : ℕ) (asked : Request) → txn_of past actor ≡ None → client_reply o past actor asked ≡ reply_outside past asked
-outside-answered o past actor asked outside = ap (λ t. reply_in o past t asked) outside
+outside-answered o past actor asked outside = ap (λ t. reply_in o past actor t asked) outside
 
 pub begin-answered : (o : Opening) (past : List Entry) (actor : ℕ) → txn_of past actor ≡ None → client_reply o past actor request.Begin ≡ reply.Begun (begun past + 1)
 unfolding reply_outside
@@ -58,7 +67,7 @@ no_txn-answered o past actor asked outside other = outside-answered o past actor
 
 ending-answered : (o : Opening) (past : List Entry) (actor txn : ℕ) (asked : Request) → txn_of past actor ≡ Some txn → is_ending past txn ≡ true → client_reply o past actor asked ≡ reply_ending o past txn asked
 ending-answered o past actor txn asked inside ends =
-    ap (λ t. reply_in o past t asked) inside ∙ ap (λ b. if b then reply_ending o past txn asked else reply_inside o past txn asked) ends
+    ap (λ t. reply_in o past actor t asked) inside ∙ ap (λ b. if b then reply_ending o past txn asked else reply_inside o past actor txn asked) ends
 
 only_undo : (o : Opening) (past : List Entry) (txn : ℕ) (asked : Request) → (asked ≡ request.Begin → ⊥) → (asked ≡ request.Undo → ⊥) → reply_ending o past txn asked ≡ reply.Ending
 unfolding reply_ending
@@ -76,25 +85,25 @@ only_undo-answered o past actor txn asked inside ends other undo = ending-answer
 
 -- ** in a transaction **
 
-pub inside-answered : (o : Opening) (past : List Entry) (actor txn : ℕ) (asked : Request) → txn_of past actor ≡ Some txn → is_ending past txn ≡ false → client_reply o past actor asked ≡ reply_inside o past txn asked
+pub inside-answered : (o : Opening) (past : List Entry) (actor txn : ℕ) (asked : Request) → txn_of past actor ≡ Some txn → is_ending past txn ≡ false → client_reply o past actor asked ≡ reply_inside o past actor txn asked
 inside-answered o past actor txn asked inside rests =
-    ap (λ t. reply_in o past t asked) inside ∙ ap (λ b. if b then reply_ending o past txn asked else reply_inside o past txn asked) rests
+    ap (λ t. reply_in o past actor t asked) inside ∙ ap (λ b. if b then reply_ending o past txn asked else reply_inside o past actor txn asked) rests
 
-already : (o : Opening) (past : List Entry) (txn : ℕ) (b : Bool) → (if b then reply_ending o past txn request.Begin else reply_inside o past txn request.Begin) ≡ reply.Already
+already : (o : Opening) (past : List Entry) (actor txn : ℕ) (b : Bool) → (if b then reply_ending o past txn request.Begin else reply_inside o past actor txn request.Begin) ≡ reply.Already
 unfolding reply_ending reply_inside
-already o past txn true = refl
-already o past txn false = refl
+already o past actor txn true = refl
+already o past actor txn false = refl
 
 pub already-answered : (o : Opening) (past : List Entry) (actor txn : ℕ) → txn_of past actor ≡ Some txn → client_reply o past actor request.Begin ≡ reply.Already
-already-answered o past actor txn inside = ap (λ t. reply_in o past t request.Begin) inside ∙ already o past txn (is_ending past txn)
+already-answered o past actor txn inside = ap (λ t. reply_in o past actor t request.Begin) inside ∙ already o past actor txn (is_ending past txn)
 
-undoes : (o : Opening) (past : List Entry) (txn : ℕ) (b : Bool) → (if b then reply_ending o past txn request.Undo else reply_inside o past txn request.Undo) ≡ undo_reply o past txn
+undoes : (o : Opening) (past : List Entry) (actor txn : ℕ) (b : Bool) → (if b then reply_ending o past txn request.Undo else reply_inside o past actor txn request.Undo) ≡ undo_reply o past txn
 unfolding reply_ending reply_inside
-undoes o past txn true = refl
-undoes o past txn false = refl
+undoes o past actor txn true = refl
+undoes o past actor txn false = refl
 
 undo-answered : (o : Opening) (past : List Entry) (actor txn : ℕ) → txn_of past actor ≡ Some txn → client_reply o past actor request.Undo ≡ undo_reply o past txn
-undo-answered o past actor txn inside = ap (λ t. reply_in o past t request.Undo) inside ∙ undoes o past txn (is_ending past txn)
+undo-answered o past actor txn inside = ap (λ t. reply_in o past actor t request.Undo) inside ∙ undoes o past actor txn (is_ending past txn)
 
 pub undone-answered : (o : Opening) (past : List Entry) (actor txn lsn : ℕ) (rest : List ℕ) → txn_of past actor ≡ Some txn → writes_left txn (log_of o past) ≡ lsn ∷ rest → client_reply o past actor request.Undo ≡ reply.Undone (next_lsn o past)
 undone-answered o past actor txn lsn rest inside left = undo-answered o past actor txn inside ∙ ap (undo_answer o past) left
@@ -102,18 +111,18 @@ undone-answered o past actor txn lsn rest inside left = undo-answered o past act
 pub aborted-answered : (o : Opening) (past : List Entry) (actor txn : ℕ) → txn_of past actor ≡ Some txn → writes_left txn (log_of o past) ≡ [] → client_reply o past actor request.Undo ≡ reply.Aborted (next_lsn o past)
 aborted-answered o past actor txn inside left = undo-answered o past actor txn inside ∙ ap (undo_answer o past) left
 
-commits : (o : Opening) (past : List Entry) (txn : ℕ) → reply_inside o past txn request.Commit ≡ reply.Committed (next_lsn o past)
+commits : (o : Opening) (past : List Entry) (actor txn : ℕ) → reply_inside o past actor txn request.Commit ≡ reply.Committed (next_lsn o past)
 unfolding reply_inside
-commits o past txn = refl
+commits o past actor txn = refl
 
 pub commit-answered : (o : Opening) (past : List Entry) (actor txn : ℕ) → txn_of past actor ≡ Some txn → is_ending past txn ≡ false → client_reply o past actor request.Commit ≡ reply.Committed (next_lsn o past)
-commit-answered o past actor txn inside rests = inside-answered o past actor txn request.Commit inside rests ∙ commits o past txn
+commit-answered o past actor txn inside rests = inside-answered o past actor txn request.Commit inside rests ∙ commits o past actor txn
 
 -- ** reads **
 
-reads : (o : Opening) (past : List Entry) (txn : ℕ) (table : List ℕ) (key : List Value) → reply_inside o past txn (request.Read table key) ≡ read_reply o past txn table (schema_of o.catalog table) key
+reads : (o : Opening) (past : List Entry) (actor txn : ℕ) (table : List ℕ) (key : List Value) → reply_inside o past actor txn (request.Read table key) ≡ read_reply o past actor txn table (schema_of (known o past) table) key
 unfolding reply_inside
-reads o past txn table key = refl
+reads o past actor txn table key = refl
 
 -- a refusal changes nothing, and is the answer
 pub record IsRefused (answer shown : Reply) : Type 0 where
@@ -125,40 +134,47 @@ unfolding effect
 bad_refused None rest answer e = absurd (cc)
 bad_refused (Some bad) rest answer e = let same : reply.BadRow bad ≡ answer = cc in record { is = same; quiet = ap effect (sym same) }
 
+shut_refused : (shut : Option Reply) (bad : Option BadRow) (rest answer : Reply) → IfSome shut IsRefusal → or_later shut (option_map reply.BadRow bad) ≡ Some answer → IsRefused answer (unless_closed shut (unless_bad bad rest))
+shut_refused None bad rest answer quiet e = bad_refused bad rest answer e
+shut_refused (Some refusal) bad rest answer quiet e = let same : refusal ≡ answer = cc in record { is = same; quiet = ap effect (sym same) ∙ quiet }
+
 no_table_refused : (answer : Reply) → Some reply.NoTable ≡ Some answer → IsRefused answer reply.NoTable
 unfolding effect
 no_table_refused answer e = let same : reply.NoTable ≡ answer = cc in record { is = same; quiet = ap effect (sym same) }
 
-read_refused : (o : Opening) (past : List Entry) (txn : ℕ) (table : List ℕ) (layout : Option Layout) (key : List Value) (answer : Reply) → key_refused layout key ≡ Some answer → IsRefused answer (read_reply o past txn table layout key)
-read_refused o past txn table None key answer e = no_table_refused answer e
-read_refused o past txn table (Some layout) key answer e = bad_refused (key_fault layout key) _ answer e
+read_refused : (o : Opening) (past : List Entry) (actor txn : ℕ) (table : List ℕ) (layout : Option Layout) (key : List Value) (answer : Reply) → key_refused layout (closed past actor table) key ≡ Some answer → IsRefused answer (read_reply o past actor txn table layout key)
+read_refused o past actor txn table None key answer e = no_table_refused answer e
+read_refused o past actor txn table (Some layout) key answer e = shut_refused (closed past actor table) (key_fault layout key) _ answer (closed_refuses past actor table) e
 
-pub read-refused : (o : Opening) (past : List Entry) (actor txn : ℕ) (table : List ℕ) (key : List Value) (answer : Reply) → txn_of past actor ≡ Some txn → is_ending past txn ≡ false → key_refused (schema_of o.catalog table) key ≡ Some answer
+pub read-refused : (o : Opening) (past : List Entry) (actor txn : ℕ) (table : List ℕ) (key : List Value) (answer : Reply) → txn_of past actor ≡ Some txn → is_ending past txn ≡ false → key_refused (schema_of (known o past) table) (closed past actor table) key ≡ Some answer
     → IsRefused answer (client_reply o past actor (request.Read table key))
 read-refused o past actor txn table key answer inside rests e =
-    let refused = read_refused o past txn table (schema_of o.catalog table) key answer e in
-    record { is = inside-answered o past actor txn (request.Read table key) inside rests ∙ reads o past txn table key ∙ refused.is; quiet = refused.quiet }
+    let refused = read_refused o past actor txn table (schema_of (known o past) table) key answer e in
+    record { is = inside-answered o past actor txn (request.Read table key) inside rests ∙ reads o past actor txn table key ∙ refused.is; quiet = refused.quiet }
 
--- a table that is declared, whose schema admits what is asked
-pub record IsGood (layout : Option Layout) (fault : Layout → Option BadRow) : Type 0 where
+-- a table that has a name and is open to the transaction, and whose schema admits what is asked
+pub record IsGood (layout : Option Layout) (shut : Option Reply) (fault : Layout → Option BadRow) : Type 0 where
   pub schema : Layout
   pub declared : layout ≡ Some schema
+  pub opened : shut ≡ None
   pub admitted : fault schema ≡ None
 
-no_bad : (bad : Option BadRow) → option_map reply.BadRow bad ≡ None → bad ≡ None
-no_bad None e = refl
-no_bad (Some bad) e = absurd (cc)
+none_bad : (shut : Option Reply) (bad : Option BadRow) → or_later shut (option_map reply.BadRow bad) ≡ None → (shut ≡ None) × (bad ≡ None)
+none_bad None None e = (refl, refl)
+none_bad None (Some bad) e = absurd (cc)
+none_bad (Some refusal) bad e = absurd (cc)
 
-pub key_good : (layout : Option Layout) (key : List Value) → key_refused layout key ≡ None → IsGood layout (λ schema. key_fault schema key)
-key_good None key e = absurd (cc)
-key_good (Some layout) key e = record { schema = layout; declared = refl; admitted = no_bad (key_fault layout key) e }
+pub key_good : (layout : Option Layout) (shut : Option Reply) (key : List Value) → key_refused layout shut key ≡ None → IsGood layout shut (λ schema. key_fault schema key)
+key_good None shut key e = absurd (cc)
+key_good (Some layout) shut key e = let none = none_bad shut (key_fault layout key) e in record { schema = layout; declared = refl; opened = none.0; admitted = none.1 }
 
-pub read-answered : (o : Opening) (past : List Entry) (actor txn : ℕ) (table : List ℕ) (key : List Value) → txn_of past actor ≡ Some txn → is_ending past txn ≡ false → IsGood (schema_of o.catalog table) (λ schema. key_fault schema key)
-    → client_reply o past actor (request.Read table key) ≡ unless_held (holder o.catalog past txn table key Shared) (read_answer (row_now o past table key))
+pub read-answered : (o : Opening) (past : List Entry) (actor txn : ℕ) (table : List ℕ) (key : List Value) → txn_of past actor ≡ Some txn → is_ending past txn ≡ false → IsGood (schema_of (known o past) table) (closed past actor table) (λ schema. key_fault schema key)
+    → client_reply o past actor (request.Read table key) ≡ unless_held (holder o past txn table key Shared) (read_answer (row_now o past table key))
 read-answered o past actor txn table key inside rests good =
-    inside-answered o past actor txn (request.Read table key) inside rests ∙ reads o past txn table key
-    ∙ ap (λ layout. read_reply o past txn table layout key) good.declared
-    ∙ ap (λ bad. unless_bad bad (unless_held (holder o.catalog past txn table key Shared) (read_answer (row_now o past table key)))) good.admitted
+    inside-answered o past actor txn (request.Read table key) inside rests ∙ reads o past actor txn table key
+    ∙ ap (λ layout. read_reply o past actor txn table layout key) good.declared
+    ∙ ap (λ shut. unless_closed shut (unless_bad (key_fault good.schema key) (unless_held (holder o past txn table key Shared) (read_answer (row_now o past table key))))) good.opened
+    ∙ ap (λ bad. unless_bad bad (unless_held (holder o past txn table key Shared) (read_answer (row_now o past table key)))) good.admitted
 
 -- ** changes **
 
@@ -169,50 +185,51 @@ change_told o past (Replace row) there = change_answer o past there
 change_told o past (Delete key) there = change_answer o past there
 
 -- the answer to the request that asks for a change
-abbrev pub change_reply : Opening → List Entry → ℕ → List ℕ → Option Layout → Change → Reply
-change_reply o past txn table None change = reply.NoTable
-change_reply o past txn table (Some layout) change =
-    unless_bad (change_fault layout change) (unless_held (holder o.catalog past txn table (key_of_change layout change) Exclusive) (change_told o past change (row_now o past table (key_of_change layout change))))
+abbrev pub change_reply : Opening → List Entry → ℕ → ℕ → List ℕ → Option Layout → Change → Reply
+change_reply o past actor txn table None change = reply.NoTable
+change_reply o past actor txn table (Some layout) change =
+    unless_closed (closed past actor table) (unless_bad (change_fault layout change) (unless_held (holder o past txn table (key_of_change layout change) Exclusive) (change_told o past change (row_now o past table (key_of_change layout change)))))
 
-insert_same : (o : Opening) (past : List Entry) (txn : ℕ) (table : List ℕ) (layout : Option Layout) (row : List Value) → insert_reply o past txn table layout row ≡ change_reply o past txn table layout (Insert row)
-insert_same o past txn table None row = refl
-insert_same o past txn table (Some layout) row = refl
+insert_same : (o : Opening) (past : List Entry) (actor txn : ℕ) (table : List ℕ) (layout : Option Layout) (row : List Value) → insert_reply o past actor txn table layout row ≡ change_reply o past actor txn table layout (Insert row)
+insert_same o past actor txn table None row = refl
+insert_same o past actor txn table (Some layout) row = refl
 
-update_same : (o : Opening) (past : List Entry) (txn : ℕ) (table : List ℕ) (layout : Option Layout) (row : List Value) → update_reply o past txn table layout row ≡ change_reply o past txn table layout (Replace row)
-update_same o past txn table None row = refl
-update_same o past txn table (Some layout) row = refl
+update_same : (o : Opening) (past : List Entry) (actor txn : ℕ) (table : List ℕ) (layout : Option Layout) (row : List Value) → update_reply o past actor txn table layout row ≡ change_reply o past actor txn table layout (Replace row)
+update_same o past actor txn table None row = refl
+update_same o past actor txn table (Some layout) row = refl
 
-delete_same : (o : Opening) (past : List Entry) (txn : ℕ) (table : List ℕ) (layout : Option Layout) (key : List Value) → delete_reply o past txn table layout key ≡ change_reply o past txn table layout (Delete key)
-delete_same o past txn table None key = refl
-delete_same o past txn table (Some layout) key = refl
+delete_same : (o : Opening) (past : List Entry) (actor txn : ℕ) (table : List ℕ) (layout : Option Layout) (key : List Value) → delete_reply o past actor txn table layout key ≡ change_reply o past actor txn table layout (Delete key)
+delete_same o past actor txn table None key = refl
+delete_same o past actor txn table (Some layout) key = refl
 
-changes : (o : Opening) (past : List Entry) (txn : ℕ) (table : List ℕ) (change : Change) → reply_inside o past txn (asked_for table change) ≡ change_reply o past txn table (schema_of o.catalog table) change
+changes : (o : Opening) (past : List Entry) (actor txn : ℕ) (table : List ℕ) (change : Change) → reply_inside o past actor txn (asked_for table change) ≡ change_reply o past actor txn table (schema_of (known o past) table) change
 unfolding reply_inside
-changes o past txn table (Insert row) = insert_same o past txn table (schema_of o.catalog table) row
-changes o past txn table (Replace row) = update_same o past txn table (schema_of o.catalog table) row
-changes o past txn table (Delete key) = delete_same o past txn table (schema_of o.catalog table) key
+changes o past actor txn table (Insert row) = insert_same o past actor txn table (schema_of (known o past) table) row
+changes o past actor txn table (Replace row) = update_same o past actor txn table (schema_of (known o past) table) row
+changes o past actor txn table (Delete key) = delete_same o past actor txn table (schema_of (known o past) table) key
 
-change_refused_is : (o : Opening) (past : List Entry) (txn : ℕ) (table : List ℕ) (layout : Option Layout) (change : Change) (answer : Reply) → change_refused layout change ≡ Some answer → IsRefused answer (change_reply o past txn table layout change)
-change_refused_is o past txn table None change answer e = no_table_refused answer e
-change_refused_is o past txn table (Some layout) change answer e = bad_refused (change_fault layout change) _ answer e
+change_refused_is : (o : Opening) (past : List Entry) (actor txn : ℕ) (table : List ℕ) (layout : Option Layout) (change : Change) (answer : Reply) → change_refused layout (closed past actor table) change ≡ Some answer → IsRefused answer (change_reply o past actor txn table layout change)
+change_refused_is o past actor txn table None change answer e = no_table_refused answer e
+change_refused_is o past actor txn table (Some layout) change answer e = shut_refused (closed past actor table) (change_fault layout change) _ answer (closed_refuses past actor table) e
 
-pub change-refused : (o : Opening) (past : List Entry) (actor txn : ℕ) (table : List ℕ) (change : Change) (answer : Reply) → txn_of past actor ≡ Some txn → is_ending past txn ≡ false → change_refused (schema_of o.catalog table) change ≡ Some answer
+pub change-refused : (o : Opening) (past : List Entry) (actor txn : ℕ) (table : List ℕ) (change : Change) (answer : Reply) → txn_of past actor ≡ Some txn → is_ending past txn ≡ false → change_refused (schema_of (known o past) table) (closed past actor table) change ≡ Some answer
     → IsRefused answer (client_reply o past actor (asked_for table change))
 change-refused o past actor txn table change answer inside rests e =
-    let refused = change_refused_is o past txn table (schema_of o.catalog table) change answer e in
-    record { is = inside-answered o past actor txn (asked_for table change) inside rests ∙ changes o past txn table change ∙ refused.is; quiet = refused.quiet }
+    let refused = change_refused_is o past actor txn table (schema_of (known o past) table) change answer e in
+    record { is = inside-answered o past actor txn (asked_for table change) inside rests ∙ changes o past actor txn table change ∙ refused.is; quiet = refused.quiet }
 
-pub change_good : (layout : Option Layout) (change : Change) → change_refused layout change ≡ None → IsGood layout (λ schema. change_fault schema change)
-change_good None change e = absurd (cc)
-change_good (Some layout) change e = record { schema = layout; declared = refl; admitted = no_bad (change_fault layout change) e }
+pub change_good : (layout : Option Layout) (shut : Option Reply) (change : Change) → change_refused layout shut change ≡ None → IsGood layout shut (λ schema. change_fault schema change)
+change_good None shut change e = absurd (cc)
+change_good (Some layout) shut change e = let none = none_bad shut (change_fault layout change) e in record { schema = layout; declared = refl; opened = none.0; admitted = none.1 }
 
-pub change-answered : (o : Opening) (past : List Entry) (actor txn : ℕ) (table : List ℕ) (change : Change) → txn_of past actor ≡ Some txn → is_ending past txn ≡ false → (good : IsGood (schema_of o.catalog table) (λ schema. change_fault schema change))
+pub change-answered : (o : Opening) (past : List Entry) (actor txn : ℕ) (table : List ℕ) (change : Change) → txn_of past actor ≡ Some txn → is_ending past txn ≡ false → (good : IsGood (schema_of (known o past) table) (closed past actor table) (λ schema. change_fault schema change))
     → client_reply o past actor (asked_for table change)
-    ≡ unless_held (holder o.catalog past txn table (key_of_change good.schema change) Exclusive) (change_told o past change (row_now o past table (key_of_change good.schema change)))
+    ≡ unless_held (holder o past txn table (key_of_change good.schema change) Exclusive) (change_told o past change (row_now o past table (key_of_change good.schema change)))
 change-answered o past actor txn table change inside rests good =
-    inside-answered o past actor txn (asked_for table change) inside rests ∙ changes o past txn table change
-    ∙ ap (λ layout. change_reply o past txn table layout change) good.declared
-    ∙ ap (λ bad. unless_bad bad (unless_held (holder o.catalog past txn table (key_of_change good.schema change) Exclusive) (change_told o past change (row_now o past table (key_of_change good.schema change))))) good.admitted
+    inside-answered o past actor txn (asked_for table change) inside rests ∙ changes o past actor txn table change
+    ∙ ap (λ layout. change_reply o past actor txn table layout change) good.declared
+    ∙ ap (λ shut. unless_closed shut (unless_bad (change_fault good.schema change) (unless_held (holder o past txn table (key_of_change good.schema change) Exclusive) (change_told o past change (row_now o past table (key_of_change good.schema change)))))) good.opened
+    ∙ ap (λ bad. unless_bad bad (unless_held (holder o past txn table (key_of_change good.schema change) Exclusive) (change_told o past change (row_now o past table (key_of_change good.schema change))))) good.admitted
 
 -- a change that is allowed is answered Done
 pub told-done : (o : Opening) (past : List Entry) (change : Change) (there : Option (List Value)) → refusal change there ≡ None → change_told o past change there ≡ reply.Done (next_lsn o past)
@@ -252,12 +269,12 @@ pub read-key : (catalog : List Declared) (table : List ℕ) (key : List Value) (
 unfolding is_for_key asks_for_key
 read-key catalog table key other at = refl
 
-pub change-record : (catalog : List Declared) (log : List Rec) (txn : ℕ) (table : List ℕ) (layout : Layout) (change : Change) → schema_of catalog table ≡ Some layout
-    → event_record catalog log txn (event.Client (asked_for table change)) ≡ Some (write_record log txn table (key_of_change layout change) (image_of change))
+pub change-record : (catalog : List Declared) (there : Rows) (txn : ℕ) (table : List ℕ) (layout : Layout) (change : Change) → schema_of catalog table ≡ Some layout
+    → event_record catalog there txn (event.Client (asked_for table change)) ≡ Some (write_record there txn table (key_of_change layout change) (image_of change))
 unfolding event_record request_record
-change-record catalog log txn table layout (Insert row) declared = rw declared refl
-change-record catalog log txn table layout (Replace row) declared = rw declared refl
-change-record catalog log txn table layout (Delete key) declared = refl
+change-record catalog there txn table layout (Insert row) declared = rw declared refl
+change-record catalog there txn table layout (Replace row) declared = rw declared refl
+change-record catalog there txn table layout (Delete key) declared = refl
 
 -- ** what the answers do **
 
@@ -344,6 +361,31 @@ ending_uncommitted o past txn (request.Delete table key) = refl
 ending_uncommitted o past txn request.Commit = refl
 ending_uncommitted o past txn request.Undo = undo_uncommitted o past (writes_left txn (log_of o past))
 
+-- what closes a table isn't Committed
+shut_in_uncommitted : (at : Phase) (is_new is_source has_lock : Bool) → IfSome (closed_in at is_new is_source has_lock) (λ refusal. is_committed refusal ≡ false)
+unfolding is_committed
+shut_in_uncommitted Idle is_new is_source has_lock = tt
+shut_in_uncommitted Scanning true is_source has_lock = refl
+shut_in_uncommitted Scanning false is_source has_lock = tt
+shut_in_uncommitted Chasing true is_source has_lock = refl
+shut_in_uncommitted Chasing false is_source has_lock = tt
+shut_in_uncommitted Draining true is_source has_lock = refl
+shut_in_uncommitted Draining false true true = tt
+shut_in_uncommitted Draining false true false = refl
+shut_in_uncommitted Draining false false has_lock = tt
+shut_in_uncommitted Late is_new true has_lock = refl
+shut_in_uncommitted Late is_new false has_lock = tt
+shut_in_uncommitted Done is_new true has_lock = refl
+shut_in_uncommitted Done is_new false has_lock = tt
+
+shut_by_uncommitted : (past : List Entry) (client : ℕ) (table : List ℕ) (s : Option Started) → IfSome (closed_by past client table s) (λ refusal. is_committed refusal ≡ false)
+shut_by_uncommitted past client table None = tt
+shut_by_uncommitted past client table (Some s) = shut_in_uncommitted (phase past) (has_name (targets_of s.spec) table) (has_name (sources_of s.spec) table) (has_lock_on (sources_of s.spec) client past)
+
+shut_uncommitted : (shut : Option Reply) (rest : Reply) → IfSome shut (λ refusal. is_committed refusal ≡ false) → is_committed rest ≡ false → is_committed (unless_closed shut rest) ≡ false
+shut_uncommitted (Some refusal) rest shut_is e = shut_is
+shut_uncommitted None rest shut_is e = e
+
 bad_uncommitted : (bad : Option BadRow) (by : Option ℕ) (rest : Reply) → is_committed rest ≡ false → is_committed (unless_bad bad (unless_held by rest)) ≡ false
 unfolding is_committed
 bad_uncommitted (Some bad) by rest e = refl
@@ -364,26 +406,26 @@ told_uncommitted o past (Replace row) None = refl
 told_uncommitted o past (Delete key) (Some old) = refl
 told_uncommitted o past (Delete key) None = refl
 
-read_uncommitted : (o : Opening) (past : List Entry) (txn : ℕ) (table : List ℕ) (layout : Option Layout) (key : List Value) → is_committed (read_reply o past txn table layout key) ≡ false
+read_uncommitted : (o : Opening) (past : List Entry) (actor txn : ℕ) (table : List ℕ) (layout : Option Layout) (key : List Value) → is_committed (read_reply o past actor txn table layout key) ≡ false
 unfolding is_committed
-read_uncommitted o past txn table None key = refl
-read_uncommitted o past txn table (Some layout) key = bad_uncommitted (key_fault layout key) (holder o.catalog past txn table key Shared) _ (row_uncommitted (row_now o past table key))
+read_uncommitted o past actor txn table None key = refl
+read_uncommitted o past actor txn table (Some layout) key = shut_uncommitted (closed past actor table) _ (shut_by_uncommitted past actor table (started past)) (bad_uncommitted (key_fault layout key) (holder o past txn table key Shared) _ (row_uncommitted (row_now o past table key)))
 
-change_uncommitted : (o : Opening) (past : List Entry) (txn : ℕ) (table : List ℕ) (layout : Option Layout) (change : Change) → is_committed (change_reply o past txn table layout change) ≡ false
+change_uncommitted : (o : Opening) (past : List Entry) (actor txn : ℕ) (table : List ℕ) (layout : Option Layout) (change : Change) → is_committed (change_reply o past actor txn table layout change) ≡ false
 unfolding is_committed
-change_uncommitted o past txn table None change = refl
-change_uncommitted o past txn table (Some layout) change =
-    bad_uncommitted (change_fault layout change) (holder o.catalog past txn table (key_of_change layout change) Exclusive) _ (told_uncommitted o past change (row_now o past table (key_of_change layout change)))
+change_uncommitted o past actor txn table None change = refl
+change_uncommitted o past actor txn table (Some layout) change =
+    shut_uncommitted (closed past actor table) _ (shut_by_uncommitted past actor table (started past)) (bad_uncommitted (change_fault layout change) (holder o past txn table (key_of_change layout change) Exclusive) _ (told_uncommitted o past change (row_now o past table (key_of_change layout change))))
 
-inside_uncommitted : (o : Opening) (past : List Entry) (txn : ℕ) (asked : Request) → (asked ≡ request.Commit → ⊥) → is_committed (reply_inside o past txn asked) ≡ false
+inside_uncommitted : (o : Opening) (past : List Entry) (actor txn : ℕ) (asked : Request) → (asked ≡ request.Commit → ⊥) → is_committed (reply_inside o past actor txn asked) ≡ false
 unfolding reply_inside is_committed
-inside_uncommitted o past txn request.Begin other = refl
-inside_uncommitted o past txn (request.Read table key) other = read_uncommitted o past txn table (schema_of o.catalog table) key
-inside_uncommitted o past txn (request.Insert table row) other = ap is_committed (insert_same o past txn table (schema_of o.catalog table) row) ∙ change_uncommitted o past txn table (schema_of o.catalog table) (Insert row)
-inside_uncommitted o past txn (request.Update table row) other = ap is_committed (update_same o past txn table (schema_of o.catalog table) row) ∙ change_uncommitted o past txn table (schema_of o.catalog table) (Replace row)
-inside_uncommitted o past txn (request.Delete table key) other = ap is_committed (delete_same o past txn table (schema_of o.catalog table) key) ∙ change_uncommitted o past txn table (schema_of o.catalog table) (Delete key)
-inside_uncommitted o past txn request.Commit other = absurd (other refl)
-inside_uncommitted o past txn request.Undo other = undo_uncommitted o past (writes_left txn (log_of o past))
+inside_uncommitted o past actor txn request.Begin other = refl
+inside_uncommitted o past actor txn (request.Read table key) other = read_uncommitted o past actor txn table (schema_of (known o past) table) key
+inside_uncommitted o past actor txn (request.Insert table row) other = ap is_committed (insert_same o past actor txn table (schema_of (known o past) table) row) ∙ change_uncommitted o past actor txn table (schema_of (known o past) table) (Insert row)
+inside_uncommitted o past actor txn (request.Update table row) other = ap is_committed (update_same o past actor txn table (schema_of (known o past) table) row) ∙ change_uncommitted o past actor txn table (schema_of (known o past) table) (Replace row)
+inside_uncommitted o past actor txn (request.Delete table key) other = ap is_committed (delete_same o past actor txn table (schema_of (known o past) table) key) ∙ change_uncommitted o past actor txn table (schema_of (known o past) table) (Delete key)
+inside_uncommitted o past actor txn request.Commit other = absurd (other refl)
+inside_uncommitted o past actor txn request.Undo other = undo_uncommitted o past (writes_left txn (log_of o past))
 
 asks-committed : (o : Opening) (past : List Entry) (actor : ℕ) (asked : Request) → commits_now o past actor (event.Client asked) ≡ is_committed (client_reply o past actor asked)
 unfolding commits_now
@@ -396,7 +438,7 @@ pub uncommitted-ending : (o : Opening) (past : List Entry) (actor txn : ℕ) (as
 uncommitted-ending o past actor txn asked inside ends = asks-committed o past actor asked ∙ ap is_committed (ending-answered o past actor txn asked inside ends) ∙ ending_uncommitted o past txn asked
 
 pub uncommitted-inside : (o : Opening) (past : List Entry) (actor txn : ℕ) (asked : Request) → txn_of past actor ≡ Some txn → is_ending past txn ≡ false → (asked ≡ request.Commit → ⊥) → commits_now o past actor (event.Client asked) ≡ false
-uncommitted-inside o past actor txn asked inside rests other = asks-committed o past actor asked ∙ ap is_committed (inside-answered o past actor txn asked inside rests) ∙ inside_uncommitted o past txn asked other
+uncommitted-inside o past actor txn asked inside rests other = asks-committed o past actor asked ∙ ap is_committed (inside-answered o past actor txn asked inside rests) ∙ inside_uncommitted o past actor txn asked other
 
 -- only a Commit is answered Committed
 pub commits_inside : (o : Opening) (past : List Entry) (actor txn : ℕ) (asked : Request) → txn_of past actor ≡ Some txn → is_ending past txn ≡ false → commits_now o past actor (event.Client asked) ≡ true → asked ≡ request.Commit

@@ -1,32 +1,21 @@
 -- What the tables have, by name and by row: what the log leaves there.
-use Rattle.std.proofs.Common.{◌≡◌, ◌∷◌, [], ℕ, List, Bool, true, false, cond, map, Option, Some, None, option_map, if◌then◌else◌, refl, sym, ◌∙◌, ap, subst}
-use Rattle.std.specs.List.{AllByRecursion}
-use Rattle.std.specs.List.Sorted.{IsStrictlySortedBy}
-use Rattle.std.specs.Ordering.{is_eq, ordering_reverse}
-use Rattle.std.specs.declared.cmp.Ordering.{Ordering}
-use Rattle.std.specs.declared.cmp.Ordering.TheVariants.{Less, Equal, Greater}
+use Rattle.std.proofs.Common.{◌≡◌, ◌∷◌, [], ℕ, List, Bool, true, false, cond, Option, Some, None, option_map, if◌then◌else◌, refl, sym, ◌∙◌, ap}
 use Rattle.std.proofs.lemmas.Bool.{false≢true}
-use Rattle.std.proofs.lemmas.List.Elements.{recursion_from_All}
 use Rattle.sx_values.specs.declared.value.Value.{Value}
 use Rattle.sx_values.specs.declared.catalog.Declared.{Declared}
 use Rattle.sx_values.specs.Catalogs.{declared_as}
-use Rattle.sx_values.specs.Layouts.{Layout, key_of, Admits}
 use Rattle.sx_values.specs.Names.{same_name}
-use Rattle.sx_values.specs.Values.{values_cmp, values_eq}
 use Rattle.sx_values.proofs.KeyLaws.{same_name_tells}
 use Rattle.sx_log.specs.declared.record.Rec.{Rec}
 use Rattle.sx_log.specs.declared.record.Body.TheVariants.{Switch}
-use Rattle.sx_log.specs.State.{Stored, state_at, after_body}
-use Rattle.sx_heap.specs.declared.seen.Seen.{Seen}
+use Rattle.sx_log.specs.State.{state_at, after_body}
 use Rattle.sx_heap.specs.declared.tables.NamedTable.{NamedTable}
-use Rattle.sx_heap.specs.Relations.{Relation, IsRelation, IsRowOf, row_at, row_keys, same_key}
+use Rattle.sx_heap.specs.Relations.{Relation, row_at}
 use Rattle.sx_heap.specs.NamedTables.{table_named}
-use Rattle.sx_heap.proofs.WalkLemmas.{values_total}
 use Rattle.sx_ops.specs.declared.spec.Spec.{Spec}
 use Rattle.sx_ops.specs.declared.spec.Spec.TheVariants.{Join, Split, Part, Union}
 use Rattle.sx_ops.specs.Checks.{IsShaped, spec_fault, part_fault}
 use Rattle.sx_ops.specs.Operators.{sources_of}
-use Rattle.sx_model.specs.Tables.{AreRows, row_of_key}
 use Rattle.sx_txn.specs.Managed.{AreTables}
 use Rattle.sx_core.specs.Kept.{shapes_of}
 
@@ -100,51 +89,6 @@ found_meets catalog log tables name source meets is = by (declared_as catalog na
       where
         same : (other : Relation) → Some source ≡ Some other → source ≡ other
         same other h = cc
-
--- it doesn't matter which of two keys is asked for
-values_eq-sym : (key other : List Value) → values_eq key other ≡ same_key other key
-values_eq-sym key other = ap is_eq (values_total.antisymm key other) ∙ by (values_cmp other key)
-  where
-    by : (r : Ordering) → is_eq (ordering_reverse r) ≡ is_eq r
-    by Less = refl
-    by Equal = refl
-    by Greater = refl
-
-pub admitted_rows : (layout : Layout) (rows : List Seen) → AllByRecursion (IsRowOf layout) rows → AllByRecursion (Admits layout) (map (λ (s : Seen). s.row) rows)
-admitted_rows layout [] each = tt
-admitted_rows layout (s ∷ rows) each = (each.0.admitted, admitted_rows layout rows each.1)
-
--- the keys of the rows are the keys that the schema gives them
-pub keys_of_rows : (layout : Layout) (rows : List Seen) → AllByRecursion (IsRowOf layout) rows → row_keys rows ≡ map (key_of layout) (map (λ (s : Seen). s.row) rows)
-keys_of_rows layout [] each = refl
-keys_of_rows layout (s ∷ rows) each =
-    let first = each.0.keyed in
-    let rest = keys_of_rows layout rows each.1 in
-    λ i. first i ∷ rest i
-
-picked : (b : Bool) (s : Seen) (rest : Option (List Value)) (more : Option Stored) → rest ≡ option_map (λ (p : Stored). p.0) more
-    → cond b (Some s.row) rest ≡ option_map (λ (p : Stored). p.0) (cond b (Some (s.row, s.lsn)) more)
-picked true s rest more same = refl
-picked false s rest more same = same
-
--- the row that a key has among the rows is the one that it has among the plain rows
-row_of_key-rows : (layout : Layout) (rows : List Seen) (key : List Value) → AllByRecursion (IsRowOf layout) rows
-    → row_of_key layout (map (λ (s : Seen). s.row) rows) key ≡ option_map (λ (p : Stored). p.0) (row_at rows key)
-row_of_key-rows layout [] key each = refl
-row_of_key-rows layout (s ∷ rows) key each =
-    let asked : values_eq (key_of layout s.row) key ≡ same_key key s.key = ap (λ k. values_eq k key) (sym each.0.keyed) ∙ values_eq-sym s.key key in
-    rw asked (picked (same_key key s.key) s (row_of_key layout (map (λ (t : Seen). t.row) rows) key) (row_at rows key) (row_of_key-rows layout rows key each.1))
-
--- the rows of a table that meets the log are those that the log leaves
-pub rows_meet : (log : List Rec) (name : List ℕ) (source : Relation) → IsRelation source → ((key : List Value) → row_at source.rows key ≡ state_at log name key)
-    → AreRows log source.schema name (map (λ (s : Seen). s.row) source.rows)
-rows_meet log name source is meets =
-    let each = recursion_from_All (IsRowOf source.schema) source.rows is.each in
-    record {
-      admitted = admitted_rows source.schema source.rows each;
-      in_order = subst (IsStrictlySortedBy values_cmp) (keys_of_rows source.schema source.rows each) is.sorted;
-      same = λ key. row_of_key-rows source.schema source.rows key each ∙ ap (option_map (λ (p : Stored). p.0)) (meets key);
-    }
 
 -- the one source of a transformation, with its table
 pub record HasSource (catalog : List Declared) (log : List Rec) (tables : List NamedTable) (spec : Spec) : Type 0 where

@@ -1,19 +1,21 @@
 -- A turn, from what the machine was to what it is: over plain variables.
-use Rattle.std.proofs.Common.{◌≡◌, ◌≤◌, ◌+◌, ◌-◌, ◌∷◌, ℕ, suc, true, false, List, length, drop, Bool, Option, Some, Result, Ok, Err, IsTrue, ◌↔◌, refl, sym, ◌∙◌, ap, subst, arith, inl, inr}
+use Rattle.std.proofs.Common.{◌≡◌, ◌≤◌, ◌+◌, ◌-◌, ◌∷◌, ℕ, suc, true, false, List, [], length, drop, Bool, cond, Option, Some, None, IsSome, Result, Ok, Err, IsTrue, ◌↔◌, refl, sym, ◌∙◌, ap, subst, arith, inl, inr}
 use Rattle.std.specs.Result.{IsErrAnd}
 use Rattle.std.proofs.lemmas.Bool.{false≢true, cases_lt}
 use Rattle.sx_values.specs.declared.value.Value.{Value}
 use Rattle.sx_values.specs.declared.catalog.Declared.{Declared}
 use Rattle.sx_log.specs.declared.record.Rec.{Rec}
-use Rattle.sx_log.specs.State.{oldest}
+use Rattle.sx_log.specs.State.{Stored, oldest}
+use Rattle.sx_values.specs.Names.{same_name}
+use Rattle.sx_heap.specs.Relations.{row_at}
+use Rattle.sx_heap.specs.NamedTables.{table_named}
 use Rattle.sx_heap.specs.declared.tables.NamedTable.{NamedTable}
-use Rattle.sx_txn.specs.Managed.{Managed, Unchanged, is_live, is_ending as ends_in}
+use Rattle.sx_txn.specs.Managed.{Managed, SameTables, Unchanged, schema_in, is_live, is_ending as ends_in}
 use Rattle.sx_txn.proofs.EventLemmas.{tables_stay}
 use Rattle.sx_sync.specs.declared.Phase.{Phase}
-use Rattle.sx_sync.specs.declared.Phase.TheVariants.{Idle}
 use Rattle.sx_journal.specs.declared.entry.Entry.{Entry}
 use Rattle.sx_journal.specs.declared.entry.Event.{Event}
-use Rattle.sx_journal.specs.declared.entry.Event.TheVariants.{Client, Start, Scan, Switch}
+use Rattle.sx_journal.specs.declared.entry.Event.TheVariants.{Client, Start, Scan, Fetch, Switch}
 use Rattle.sx_journal.specs.declared.entry.Request.{Request}
 use Rattle.sx_journal.specs.declared.entry.Reply.{Reply}
 use Rattle.sx_ops.specs.declared.spec.Spec.{Spec}
@@ -24,12 +26,13 @@ use Rattle.sx_model.specs.Leaves.{Living, living, txn_of, phase, phase_after, st
 use Rattle.sx_model.specs.Logs.{next_lsn}
 use Rattle.sx_model.specs.Held.{is_ending}
 use Rattle.sx_model.specs.Replies.{client_reply, start_reply}
+use Rattle.sx_model.specs.Fetches.{fetch_reply}
 use Rattle.sx_model.specs.Switches.{switch_reply}
 use Rattle.sx_model.specs.Schedules.{commits_now, IsFull}
 use Rattle.sx_model.specs.Legal.{Legal, Allows, ScanAnswer}
 use Rattle.sx_model.proofs.LivingLaws.{few_live}
 use Rattle.sx_core.specs.Machines.{Machine, Turns}
-use Rattle.sx_core.specs.Kept.{Fields, ManagerMeets, IsIdle, TransformMeets, IsKept}
+use Rattle.sx_core.specs.Kept.{Fields, ManagerMeets, ScanMeets, IsKept, stored_in}
 use Rattle.sx_core.specs.declared.machine.CoreFault.{CoreFault}
 use Rattle.sx_core.specs.declared.machine.CoreFault.TheVariants.{Memory}
 use Rattle.sx_core.specs.Answers.{Fails, Answers}
@@ -41,8 +44,8 @@ oldest-more : (n : ℕ) (log : List Rec) (r : Rec) → n ≤ length log → olde
 oldest-more n log r within = let e : suc (length log) - n ≡ suc (length log - n) = omega arith in ap (λ k. drop k (r ∷ log)) e
 
 -- the machine's fields
-abbrev pub fields : Managed → ℕ → List Living → List NamedTable → Phase → Option Spec → Option (List Value) → Fields
-fields managed spare clients new_tables now spec cursor = record { managed = managed; spare = spare; clients = clients; new_tables = new_tables; now = now; spec = spec; cursor = cursor }
+abbrev pub fields : Managed → ℕ → List Living → List Declared → Phase → Option Spec → Option (List Value) → ℕ → Fields
+fields managed spare clients known now spec cursor position = record { managed = managed; spare = spare; clients = clients; known = known; now = now; spec = spec; cursor = cursor; position = position }
 
 pub unchanged : (m : Managed) → Unchanged m m
 unchanged m = record { alive = record { shapes = refl; own = refl; living = refl; begun = refl }; rows = tables_stay m.tables; log = refl; locks = λ t table key. refl }
@@ -115,48 +118,69 @@ pub scan_right : (old new : Machine) (n : ℕ) (answer : Reply) → Turns old ne
 unfolding Allows
 scan_right old new n answer turn = turn.allowed.answered
 
+pub fetch_right : (old new : Machine) (n : ℕ) (answer : Reply) → Turns old new 0 (Fetch n) answer → answer ≡ fetch_reply old.opening old.past n
+unfolding Allows
+fetch_right old new n answer turn = turn.allowed.answered
+
 pub switch_right : (old new : Machine) (answer : Reply) → Turns old new 0 Switch answer → answer ≡ switch_reply old.opening old.past
 unfolding Allows
 switch_right old new answer turn = turn.allowed.answered
 
 -- ** turns that fail **
 
+-- the same tables have the same rows
+pub same-stored : (old new : List NamedTable) (name : List ℕ) (key : List Value) → SameTables old new → stored_in new name key ≡ stored_in old name key
+same-stored [] [] name key same = refl
+same-stored [] (u ∷ new) name key same = absurd same
+same-stored (t ∷ old) [] name key same = absurd same
+same-stored (t ∷ old) (u ∷ new) name key same = by (same_name t.name name) (same_name u.name name) (ap (λ n. same_name n name) same.0.name) (same-stored old new name key same.1)
+  where
+    by : (a b : Bool) → b ≡ a → stored_in new name key ≡ stored_in old name key
+        → ◌≡◌ {A = Option Stored} (elim (cond b (Some u.table) (table_named new name)) [ None ↦ None | Some table ↦ row_at table.rows key ]) (elim (cond a (Some t.table) (table_named old name)) [ None ↦ None | Some table ↦ row_at table.rows key ])
+    by true true is rest = same.0.rows key
+    by false false is rest = rest
+    by true false is rest = absurd (false≢true is)
+    by false true is rest = absurd (false≢true (sym is))
+
 pub unchanged_meets : (o : Opening) (past : List Entry) (m n : Managed) → ManagerMeets o past m → Unchanged m n → ManagerMeets o past n
 unchanged_meets o past m n meets same = record {
   shapes = same.alive.shapes ∙ meets.shapes;
-  own = same.alive.own ∙ meets.own ∙ ap length (sym same.alive.shapes);
+  own = same.alive.own ∙ meets.own;
   log_is = same.log ∙ meets.log_is;
+  rows = λ name key there. same-stored m.tables n.tables name key same.rows ∙ meets.rows name key (subst (λ shapes. IsSome (schema_in shapes name)) same.alive.shapes there);
   begun = same.alive.begun ∙ meets.begun;
   living = ap alive_numbers same.alive.living ∙ meets.living;
   ending = λ t lives. ap (λ l. ends_in l t) same.alive.living ∙ meets.ending t (sym (ap (λ l. is_live l t) same.alive.living) ∙ lives);
   locks = λ t table key. same.locks t table key ∙ meets.locks t table key;
 }
 
--- what is left of the fields where a turn fails: all but the room, what no contract sees of the manager, and the tables' order of rows
+-- what is left of the fields where a turn fails: all but the room, and what no contract sees of the manager
 pub record Leaves (f g : Fields) : Type 0 where
   pub managed : Unchanged f.managed g.managed
   pub clients : g.clients ≡ f.clients
   pub room : f.spare ≤ g.spare
-  pub new_tables : g.new_tables ≡ f.new_tables
+  pub known : g.known ≡ f.known
   pub now : g.now ≡ f.now
   pub spec : g.spec ≡ f.spec
+  pub cursor : g.cursor ≡ f.cursor
+  pub position : g.position ≡ f.position
 
--- the phases in which nothing is kept of the tables
-abbrev pub TransformStays : Opening → List Entry → Fields → Fields → Type 0
-TransformStays o past f g = TransformMeets o past f.managed.log f.managed.tables f.now f.spec f.cursor f.new_tables → TransformMeets o past g.managed.log g.managed.tables g.now g.spec g.cursor g.new_tables
-
-pub stays : (catalog : List Declared) (loads : ℕ) (past : List Entry) (f g : Fields) (m : Machine) → Holds catalog loads past f m → Leaves f g → TransformStays (opened catalog loads f.managed.log) past f g → Holds catalog loads past g m
-stays catalog loads past f g m holds leaves transform =
+pub stays : (catalog : List Declared) (loads : ℕ) (past : List Entry) (f g : Fields) (m : Machine) → Holds catalog loads past f m → Leaves f g → Holds catalog loads past g m
+stays catalog loads past f g m holds leaves =
     let o = opened catalog loads f.managed.log in
     let opening = opened-longer catalog loads f.managed.log g.managed.log holds.within (no_longer leaves.managed.log) in
     let kept : IsKept (opened catalog loads f.managed.log) past g = record {
-      legal = holds.kept.legal;
+      opened = holds.kept.opened;
       loads_fit = holds.kept.loads_fit;
+      legal = holds.kept.legal;
       manager_meets = unchanged_meets (opened catalog loads f.managed.log) past f.managed g.managed holds.kept.manager_meets leaves.managed;
       clients_are = leaves.clients ∙ holds.kept.clients_are;
       room = (let few = holds.kept.room in let more = leaves.room in let counted = ap length leaves.clients in omega arith);
-      phase_is = holds.kept.phase_is ∙ sym leaves.now;
-      transform_meets = transform holds.kept.transform_meets;
+      phase_is = leaves.now ∙ holds.kept.phase_is;
+      known_is = leaves.known ∙ holds.kept.known_is;
+      spec_is = leaves.spec ∙ holds.kept.spec_is;
+      position_is = leaves.position ∙ holds.kept.position_is;
+      scan_meets = subst (λ cursor. ScanMeets (opened catalog loads f.managed.log) past cursor (phase past) (started past)) (sym leaves.cursor) holds.kept.scan_meets;
     } in
     record {
       within = within-longer loads f.managed.log g.managed.log holds.within (no_longer leaves.managed.log);
@@ -167,18 +191,6 @@ stays catalog loads past f g m holds leaves transform =
 -- the same behind a journal with the same entries
 pub with_journal : (catalog : List Declared) (loads : ℕ) (past journal : List Entry) (g : Fields) (m : Machine) → journal ≡ past → Holds catalog loads past g m → Holds catalog loads journal g m
 with_journal catalog loads past journal g m is holds = subst (λ l. Holds catalog loads l g m) (sym is) holds
-
--- while no transformation has started, the transformation's fields stay as they are
-pub idle_stays : (o : Opening) (past : List Entry) (f g : Fields) → f.now ≡ Idle → g.now ≡ f.now → g.new_tables ≡ f.new_tables → TransformStays o past f g
-idle_stays o past f g idle now tables meets =
-    let was : IsIdle past f.spec f.new_tables = subst (λ p. TransformMeets o past f.managed.log f.managed.tables p f.spec f.cursor f.new_tables) idle meets in
-    let is : IsIdle past g.spec g.new_tables = record { none = was.none; no_tables = tables ∙ was.no_tables } in
-    subst (λ p. TransformMeets o past g.managed.log g.managed.tables p g.spec g.cursor g.new_tables) (sym (now ∙ idle)) is
-
--- the machine is idle where its journal is
-pub idle_now : (catalog : List Declared) (loads : ℕ) (past : List Entry) (f : Fields) (m : Machine) → Holds catalog loads past f m → phase m.past ≡ Idle → f.now ≡ Idle
-idle_now catalog loads past f m holds idle =
-    sym holds.kept.phase_is ∙ from_view (λ (x : Machine). phase x.past ≡ Idle) (opened catalog loads f.managed.log) past m holds.view idle
 
 -- ** what methods ask for **
 
@@ -219,6 +231,10 @@ uncommitted-start o past spec strategy = refl
 pub uncommitted-scan : (o : Opening) (past : List Entry) (n : ℕ) → commits_now o past 0 (Scan n) ≡ false
 unfolding commits_now
 uncommitted-scan o past n = refl
+
+pub uncommitted-fetch : (o : Opening) (past : List Entry) (n : ℕ) → commits_now o past 0 (Fetch n) ≡ false
+unfolding commits_now
+uncommitted-fetch o past n = refl
 
 pub uncommitted-switch : (o : Opening) (past : List Entry) → commits_now o past 0 Switch ≡ false
 unfolding commits_now

@@ -1,11 +1,11 @@
 pub mod Answers
 pub mod Asked
 pub mod Clients
-pub mod Conflicts
-pub mod Exchanges
-pub mod FreshTables
 pub mod Kept
 pub mod Loading
 pub mod Machines
 pub mod Refusals
+pub mod Sources
+pub mod Stands
+pub mod Switching
 pub mod Views

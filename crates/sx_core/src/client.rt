@@ -15,7 +15,7 @@ use sx_steps::Steps;
 use sx_txn::Change;
 
 impl Core {
-    /// Answers a client's request, while no transformation has started.
+    /// Answers a client's request.
     pub fn client<L: Ledger>(
         &mut self,
         actor: u8,
@@ -24,7 +24,6 @@ impl Core {
     ) -> Result<Reply, CoreFault>
         requires from_one { 1 ≤ actor }
         requires to_eight { actor ≤ 8 }
-        requires idle { phase self.old.past ≡ Idle }
         ensures answer { AnswersClient self.old self.new actor request result }
         ensures commits { commits_now self.old.opening self.old.past actor (Client request) ≡ true → IsOk result }
     {
@@ -42,7 +41,7 @@ impl Core {
 
     // A request without a live transaction.
     fn outside(&mut self, actor: u8, request: Request) -> Result<Reply, CoreFault>
-        requires comes { Comes self.old actor }
+        requires comes { Comes actor }
         requires outside { txn_of self.old.past actor ≡ None }
         ensures { AnswersClient self.old self.new actor request result }
     {
@@ -63,7 +62,7 @@ impl Core {
         request: Request,
         steps: &mut Steps<L>,
     ) -> Result<Reply, CoreFault>
-        requires comes { Comes self.old actor }
+        requires comes { Comes actor }
         requires inside { txn_of self.old.past actor ≡ Some txn }
         requires ending { is_ending self.old.past txn ≡ true }
         ensures { AnswersClient self.old self.new actor request result }
@@ -86,7 +85,7 @@ impl Core {
         request: Request,
         steps: &mut Steps<L>,
     ) -> Result<Reply, CoreFault>
-        requires comes { Comes self.old actor }
+        requires comes { Comes actor }
         requires inside { IsInside self.old actor txn }
         ensures answer { AnswersClient self.old self.new actor request result }
         ensures commits { request ≡ Request.Commit → IsOk result }
@@ -105,7 +104,7 @@ impl Core {
         request: Request,
         steps: &mut Steps<L>,
     ) -> Result<Reply, CoreFault>
-        requires comes { Comes self.old actor }
+        requires comes { Comes actor }
         requires inside { IsInside self.old actor txn }
         requires other { request ≢ Request.Commit }
         ensures { AnswersClient self.old self.new actor request result }
@@ -132,7 +131,7 @@ impl Core {
 
     // A begin in a transaction is refused.
     fn already(&mut self, actor: u8, txn: u64) -> Result<Reply, CoreFault>
-        requires comes { Comes self.old actor }
+        requires comes { Comes actor }
         requires place { HasPlace self.old }
         requires inside { txn_of self.old.past actor ≡ Some txn }
         ensures { AnswersClient self.old self.new actor Request.Begin result }

@@ -3,16 +3,20 @@
 
 mod client;
 mod clients;
-mod exchange;
+mod closed;
 mod machine;
 mod make;
-mod propagator;
 mod rows;
+mod scan;
+mod start;
+mod switch;
 mod turns;
 mod uncounted;
 
 pub use machine::{Core, CoreFault};
 pub use make::MakeFault;
+pub use scan::{FetchOut, ScanOut};
+pub use switch::{Cause, SwitchOut};
 pub use sx_log::{Load, Loads};
 
 #[cfg(test)]

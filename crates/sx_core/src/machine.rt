@@ -45,17 +45,21 @@ impl From<AllocError> for CoreFault {
 pub struct Core {
     pub(crate) alloc: Global,
     pub(crate) catalog: Catalog,
+    /// The tables that a name may mean: the declared ones and, from a start on, the new ones.
+    pub(crate) known: Catalog,
     /// How many records of the log are those of loaded rows.
     pub(crate) loads: u64,
     /// The tables, the log, and the transactions with their locks.
     pub(crate) manager: Manager,
     pub(crate) journal: Journal,
     pub(crate) clients: Clients,
-    pub(crate) new_tables: Tables,
     pub(crate) phase: Phase,
+    /// The transformation that was started last.
     pub(crate) spec: Option<Spec>,
     /// How far the scan has come in its source.
     pub(crate) cursor: Cursor,
+    /// How far the log was handed out.
+    pub(crate) position: u64,
 }
 
 impl Model for Core {
@@ -70,7 +74,7 @@ impl Model for Core {
 
     ghost invariant = { λ c. (c.loads ≤ length c.manager.log)
         × IsKept (record { catalog = c.catalog; loads = oldest c.loads c.manager.log }) c.journal.newest
-        (record { managed = c.manager; spare = c.journal.spare; clients = c.clients.newest; new_tables = c.new_tables; now = c.phase; spec = c.spec; cursor = c.cursor }) };
+        (record { managed = c.manager; spare = c.journal.spare; clients = c.clients.newest; known = c.known; now = c.phase; spec = c.spec; cursor = c.cursor; position = c.position }) };
 }
 
 impl Core {
@@ -81,7 +85,7 @@ impl Core {
     ghost use Rattle.sx_model.specs.Logs.{log_of};
     ghost use Rattle.sx_model.specs.Held.{is_ending};
     ghost use Rattle.sx_core.specs.Kept.{shapes_of};
-    ghost use Rattle.sx_core.specs.Views.{NewTablesMeet};
+    ghost use Rattle.sx_core.specs.Views.{AreNew};
 
     /// How far the transformation has come.
     pub fn phase(&self) -> Phase
@@ -114,9 +118,9 @@ impl Core {
 
     /// The new tables, in the order of the transformation's text; none before the switch.
     pub fn new_tables(&self) -> &Tables
-        ensures { NewTablesMeet self.now.opening self.now.past (phase self.now.past) result.now }
+        ensures { AreNew self.now.opening self.now.past result.now }
     {
-        &self.new_tables
+        self.manager.new_tables()
     }
 
     /// Whether a client has a live transaction.

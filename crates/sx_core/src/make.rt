@@ -82,18 +82,20 @@ impl Core {
                 table: table.copy(alloc)?,
             });
         }
+        let known = catalog.copy(alloc)?;
         let Base { tables, log } = loaded(alloc, &catalog, rows)?;
         Ok(Core {
             alloc,
             catalog,
+            known,
             loads: log.len(),
             manager: Manager::new(alloc, tables, log),
             journal: Journal::new(alloc),
             clients: Clients::new(alloc),
-            new_tables: Tables::new(alloc),
             phase: Phase::Idle,
             spec: None,
             cursor: Cursor::start(),
+            position: 0,
         })
     }
 }

@@ -1,9 +1,10 @@
 // Requests that read or write the row of a key.
-ghost use Rattle.std.specs.Prelude.{◌≡◌, Some, None, IfOk};
-ghost use Rattle.sx_values.specs.Catalogs.{schema_of};
+ghost use Rattle.std.specs.Prelude.{◌≡◌, Some, None, IfOk, option_map};
+ghost use Rattle.sx_model.specs.Leaves.{txn_of};
+ghost use Rattle.sx_model.specs.Closed.{closed};
 ghost use Rattle.sx_core.specs.Answers.{AnswersClient};
 ghost use Rattle.sx_core.specs.Asked.{Comes, HasPlace, IsInside, asked_for};
-ghost use Rattle.sx_core.specs.Refusals.{key_refused, change_refused, change_fault, read_told, write_told};
+ghost use Rattle.sx_core.specs.Refusals.{known_schema, key_refused, change_refused, change_fault, read_told, write_told};
 
 use crate::{Core, CoreFault};
 use std::alloc::{AllocError, Global};
@@ -24,12 +25,12 @@ impl Core {
         key: Key,
         steps: &mut Steps<L>,
     ) -> Result<Reply, CoreFault>
-        requires comes { Comes self.old actor }
+        requires comes { Comes actor }
         requires place { HasPlace self.old }
         requires inside { IsInside self.old actor txn }
         ensures { AnswersClient self.old self.new actor (Request.Read table key) result }
     {
-        match key_refusal(&self.catalog, &table, &key) {
+        match self.key_refusal(actor, txn, &table, &key) {
             Some(reply) => self.note(actor, Request::Read { table, key }, reply),
             None => self.read_there(actor, txn, table, key, steps),
         }
@@ -44,10 +45,10 @@ impl Core {
         key: Key,
         steps: &mut Steps<L>,
     ) -> Result<Reply, CoreFault>
-        requires comes { Comes self.old actor }
+        requires comes { Comes actor }
         requires place { HasPlace self.old }
         requires inside { IsInside self.old actor txn }
-        requires admitted { key_refused (schema_of self.old.opening.catalog table) key ≡ None }
+        requires admitted { key_refused (known_schema self.old table) (closed self.old.past actor table) key ≡ None }
         ensures { AnswersClient self.old self.new actor (Request.Read table key) result }
     {
         self.journal.reserve(self.clients.room_and(1))?;
@@ -69,12 +70,12 @@ impl Core {
         change: Change,
         steps: &mut Steps<L>,
     ) -> Result<Reply, CoreFault>
-        requires comes { Comes self.old actor }
+        requires comes { Comes actor }
         requires place { HasPlace self.old }
         requires inside { IsInside self.old actor txn }
         ensures { AnswersClient self.old self.new actor (asked_for table change) result }
     {
-        match change_refusal(&self.catalog, &table, &change) {
+        match self.change_refusal(actor, txn, &table, &change) {
             Some(reply) => self.note(actor, asked_for(table, change), reply),
             None => self.write_there(actor, txn, table, change, steps),
         }
@@ -89,10 +90,10 @@ impl Core {
         change: Change,
         steps: &mut Steps<L>,
     ) -> Result<Reply, CoreFault>
-        requires comes { Comes self.old actor }
+        requires comes { Comes actor }
         requires place { HasPlace self.old }
         requires inside { IsInside self.old actor txn }
-        requires admitted { change_refused (schema_of self.old.opening.catalog table) change ≡ None }
+        requires admitted { change_refused (known_schema self.old table) (closed self.old.past actor table) change ≡ None }
         ensures { AnswersClient self.old self.new actor (asked_for table change) result }
     {
         let asked = change.copy(self.alloc)?;
@@ -105,31 +106,43 @@ impl Core {
         });
         Ok(write_told(answer))
     }
-}
 
-// What a key is refused with, by the schema of its table.
-fn key_refusal(catalog: &Catalog, table: &Name, key: &Key) -> Option<Reply>
-    ensures { result ≡ key_refused (schema_of catalog.now table.now) key.now }
-{
-    match catalog.schema(table) {
-        None => Some(Reply::NoTable),
-        Some(schema) => match schema.admits_key(key) {
-            Ok(()) => None,
-            Err(bad) => Some(Reply::BadRow { bad }),
-        },
+    // What a client's transaction is refused for a key: by its table's name, since the table is closed, or by its schema.
+    fn key_refusal(&self, actor: u8, txn: u64, table: &Name, key: &Key) -> Option<Reply>
+        requires inside { txn_of self.now.past actor ≡ Some txn }
+        ensures { result ≡ key_refused (known_schema self.now table.now) (closed self.now.past actor table.now) key.now }
+    {
+        let Some(schema) = self.known.schema(table) else {
+            return Some(Reply::NoTable);
+        };
+        match self.closed(actor, txn, table) {
+            Some(refusal) => Some(refusal),
+            None => bad_row(schema.admits_key(key).err()),
+        }
+    }
+
+    // The same of a change.
+    fn change_refusal(&self, actor: u8, txn: u64, table: &Name, change: &Change) -> Option<Reply>
+        requires inside { txn_of self.now.past actor ≡ Some txn }
+        ensures { result ≡ change_refused (known_schema self.now table.now) (closed self.now.past actor table.now) change.now }
+    {
+        let Some(schema) = self.known.schema(table) else {
+            return Some(Reply::NoTable);
+        };
+        match self.closed(actor, txn, table) {
+            Some(refusal) => Some(refusal),
+            None => bad_row(change_fault(schema, change)),
+        }
     }
 }
 
-// The same of a change.
-fn change_refusal(catalog: &Catalog, table: &Name, change: &Change) -> Option<Reply>
-    ensures { result ≡ change_refused (schema_of catalog.now table.now) change.now }
+// The refusal of a row or key with this fault.
+fn bad_row(fault: Option<BadRow>) -> Option<Reply>
+    ensures { result ≡ option_map Reply.BadRow fault }
 {
-    match catalog.schema(table) {
-        None => Some(Reply::NoTable),
-        Some(schema) => match change_fault(schema, change) {
-            None => None,
-            Some(bad) => Some(Reply::BadRow { bad }),
-        },
+    match fault {
+        Some(bad) => Some(Reply::BadRow { bad }),
+        None => None,
     }
 }
 

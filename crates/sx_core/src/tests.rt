@@ -2,16 +2,17 @@
 ghost use Rattle.std.specs.Prelude.{◌≡◌, ◌<◌, ◌≤◌, None, All, IfOk, IsTrue, length};
 ghost use Rattle.sx_values.specs.SchemaFaults.{IsDeclarable};
 ghost use Rattle.sx_values.specs.declared.schema.Column.{Column as TheColumn};
-ghost use Rattle.sx_ops.specs.Checks.{IsShaped, spec_fault};
-ghost use Rattle.sx_sync.specs.declared.Phase.TheVariants.{Idle, Scanning, Chasing};
+ghost use Rattle.sx_ops.specs.Checks.{IsShaped};
+ghost use Rattle.sx_sync.specs.declared.Phase.TheVariants.{Idle};
 ghost use Rattle.sx_model.specs.Leaves.{phase};
 
-use crate::{Core, CoreFault, Load, Loads, MakeFault, uncounted};
+use crate::{Cause, Core, CoreFault, Load, Loads, MakeFault, ScanOut, SwitchOut};
 use std::alloc::Global;
 use std::marker::Brand;
 use std::process::Abort;
 use std::sync::ledger::{Blank, Ledger};
 use std::test::Fail;
+use sx_image::Image;
 use sx_journal::{Reply, Request};
 use sx_lists::Copied;
 use sx_ops::{Cmp, Spec, Test, Tests};
@@ -124,19 +125,38 @@ fn names_a_crowded_table_before_a_faulty_load(rt: HostRuntime) -> Result<(), Fai
 }
 
 #[test]
-fn splits_a_table(rt: HostRuntime) -> Result<(), Fail> {
+fn scans_a_table_while_it_changes(rt: HostRuntime) -> Result<(), Fail> {
     let alloc = rt.alloc();
-    let split = high_and_low(alloc)?;
-    let mut core = machine(&rt, alloc, &split)?;
-    assert_split(&rt, alloc, &mut core, split)
+    let mut core = machine_of(&rt, alloc)?;
+    assert_scanned(&rt, alloc, &mut core)
 }
 
 #[test]
-fn a_lock_hinders_the_switch(rt: HostRuntime) -> Result<(), Fail> {
+fn hands_out_the_log_behind_the_mark(rt: HostRuntime) -> Result<(), Fail> {
     let alloc = rt.alloc();
-    let split = high_and_low(alloc)?;
-    let mut core = machine(&rt, alloc, &split)?;
-    assert_hindered(&rt, alloc, &mut core, split)
+    let mut core = machine_of(&rt, alloc)?;
+    assert_handed_out(&rt, alloc, &mut core)
+}
+
+#[test]
+fn refuses_turns_without_a_transformation(rt: HostRuntime) -> Result<(), Fail> {
+    let alloc = rt.alloc();
+    let mut core = machine_of(&rt, alloc)?;
+    assert_nothing_runs(&rt, &mut core)
+}
+
+#[test]
+fn a_new_table_is_hidden_until_the_switch(rt: HostRuntime) -> Result<(), Fail> {
+    let alloc = rt.alloc();
+    let mut core = machine_of(&rt, alloc)?;
+    assert_hidden(&rt, alloc, &mut core)
+}
+
+#[test]
+fn starts_one_transformation_that_fits(rt: HostRuntime) -> Result<(), Fail> {
+    let alloc = rt.alloc();
+    let mut core = machine_of(&rt, alloc)?;
+    assert_one_start(&rt, alloc, &mut core)
 }
 
 #[test]
@@ -230,22 +250,96 @@ fn assert_free(rt: &impl Abort, alloc: Global, core: &mut Core) -> Result<(), Fa
     expect(rt, core, 2, read_of(alloc, 2)?, (Word::Absent, 0))
 }
 
-// Rows are written, and the table is split by turns of two rows.
-fn assert_split(rt: &impl Abort, alloc: Global, core: &mut Core, split: Spec) -> Result<(), Fail>
-    requires shaped { IsShaped split }
-    requires fits { spec_fault core.old.opening.catalog split ≡ None }
-{
+// Rows are written, and seen by turns of two rows; one is put behind the cursor, and one ahead of it.
+fn assert_scanned(rt: &impl Abort, alloc: Global, core: &mut Core) -> Result<(), Fail> {
     write_rows(rt, alloc, core)?;
-    assert_started(rt, core, split, 5)?;
-    assert_turns(rt, core)?;
-    assert_parts(rt, alloc, core)
+    assert_started(rt, core, high_and_low(alloc)?, 5)?;
+    assert_scan(rt, core, &[1, 2], false)?;
+    begin(rt, core, 2, 2)?;
+    expect(rt, core, 2, insert_of(alloc, b"t", 0, 9)?, (Word::Done, 6))?;
+    expect(rt, core, 2, update_of(alloc, 3, 8)?, (Word::Done, 7))?;
+    assert_scan(rt, core, &[7], true)?;
+    assert!(rt; matches!(scan(core)?.reply, Reply::ScanOver));
+    Ok(())
 }
 
-// The turns of the propagator.
-fn assert_turns(rt: &impl Abort, core: &mut Core) -> Result<(), Fail> {
-    assert_scan(rt, core, &[1, 2], false)?;
-    assert_scan(rt, core, &[3], true)?;
-    assert_switched(rt, core)
+// The records behind the mark are handed out, two by two, once the scan has ended.
+fn assert_handed_out(rt: &impl Abort, alloc: Global, core: &mut Core) -> Result<(), Fail> {
+    assert_started(rt, core, high_and_low(alloc)?, 1)?;
+    assert!(rt; matches!(core.fetch(2)?.reply, Reply::NotScanned));
+    assert_scan(rt, core, &[], true)?;
+    begin(rt, core, 1, 1)?;
+    expect(rt, core, 1, insert_of(alloc, b"t", 1, 5)?, (Word::Done, 2))?;
+    expect(rt, core, 1, insert_of(alloc, b"t", 2, 5)?, (Word::Done, 3))?;
+    expect(rt, core, 1, Request::Commit, (Word::Committed, 4))?;
+    assert_fetch(rt, core, 1, 3)?;
+    assert_fetch(rt, core, 3, 4)?;
+    assert_fetch(rt, core, 4, 4)
+}
+
+// A fetch of two hands out the records behind one place up to another.
+fn assert_fetch(rt: &impl Abort, core: &mut Core, first: u64, last: u64) -> Result<(), Fail> {
+    let out = core.fetch(2)?;
+    assert!(rt; matches!(out.reply, Reply::Fetched { from, to } if from == first && to == last));
+    assert_eq!(rt; out.recs.len(), last.saturating_sub(first));
+    Ok(())
+}
+
+// Without a transformation there is nothing to scan, to fetch or to switch.
+fn assert_nothing_runs(rt: &impl Abort, core: &mut Core) -> Result<(), Fail> {
+    assert!(rt; matches!(scan(core)?.reply, Reply::NoTransform));
+    assert!(rt; matches!(core.fetch(256)?.reply, Reply::NoTransform));
+    assert!(rt; is_idle(core));
+    let out = attempt(core);
+    assert!(rt;
+        matches!(
+            out,
+            SwitchOut::Back {
+                cause: Cause::NoTransform,
+                ..
+            }
+        )
+    );
+    assert!(rt; core.new_tables().is_empty());
+    Ok(())
+}
+
+// An attempt to switch where nothing was started.
+fn attempt(core: &mut Core) -> SwitchOut
+    requires idle { phase core.old.past ≡ Idle }
+{
+    switched::<Brand>(core, Blank::new(1))
+}
+
+// The same, on a counter that nobody reads.
+fn switched<L: Ledger>(core: &mut Core, blank: Blank) -> SwitchOut
+    requires idle { phase core.old.past ≡ Idle }
+    requires name { blank.name ≡ L.name }
+    requires parts { blank.parts ≡ L.parts }
+    requires some { 0 < blank.parts }
+{
+    let mut steps = Steps::<L>::new(blank);
+    core.switch(Image::dead(), &mut steps)
+}
+
+// The name of a new table is known from the start on, and closed.
+fn assert_hidden(rt: &impl Abort, alloc: Global, core: &mut Core) -> Result<(), Fail> {
+    begin(rt, core, 1, 1)?;
+    let early = insert_of(alloc, b"low", 1, 5)?;
+    expect(rt, core, 1, early, (Word::NoTable, 0))?;
+    assert_started(rt, core, high_and_low(alloc)?, 1)?;
+    let late = insert_of(alloc, b"low", 1, 5)?;
+    expect(rt, core, 1, late, (Word::Hidden, 0))
+}
+
+// A split of a table that there isn't doesn't fit, and a second start comes too late.
+fn assert_one_start(rt: &impl Abort, alloc: Global, core: &mut Core) -> Result<(), Fail> {
+    let unfit = core.start(split_of(alloc, b"u")?, Strategy::Blocking)?;
+    assert!(rt; matches!(unfit, Reply::BadSpec { .. }));
+    assert_started(rt, core, high_and_low(alloc)?, 1)?;
+    let second = core.start(high_and_low(alloc)?, Strategy::Blocking)?;
+    assert!(rt; matches!(second, Reply::Running));
+    Ok(())
 }
 
 // A client without a transaction asks, and begins one.
@@ -311,6 +405,7 @@ enum Word {
     Already,
     Ending,
     NoTable,
+    Hidden,
     BadRow,
     Held,
     Exists,
@@ -332,6 +427,7 @@ fn heard(reply: &Reply) -> (Word, u64) {
         Reply::Already => (Word::Already, 0),
         Reply::Ending => (Word::Ending, 0),
         Reply::NoTable => (Word::NoTable, 0),
+        Reply::Hidden => (Word::Hidden, 0),
         Reply::BadRow { .. } => (Word::BadRow, 0),
         Reply::Held { by } => (Word::Held, *by),
         Reply::Exists => (Word::Exists, 0),
@@ -341,9 +437,7 @@ fn heard(reply: &Reply) -> (Word, u64) {
 }
 
 // A transaction puts three rows into the table t.
-fn write_rows(rt: &impl Abort, alloc: Global, core: &mut Core) -> Result<(), Fail>
-    ensures { core.new.opening ≡ core.old.opening }
-{
+fn write_rows(rt: &impl Abort, alloc: Global, core: &mut Core) -> Result<(), Fail> {
     begin(rt, core, 1, 1)?;
     expect(rt, core, 1, insert_of(alloc, b"t", 1, 5)?, (Word::Done, 1))?;
     expect(rt, core, 1, insert_of(alloc, b"t", 2, 20)?, (Word::Done, 2))?;
@@ -351,13 +445,11 @@ fn write_rows(rt: &impl Abort, alloc: Global, core: &mut Core) -> Result<(), Fai
     expect(rt, core, 1, Request::Commit, (Word::Committed, 4))
 }
 
-// A client asks, before a transformation has started.
-fn ask(rt: &impl Abort, core: &mut Core, actor: u8, request: Request) -> Result<(Word, u64), Fail>
+// A client asks.
+fn ask(core: &mut Core, actor: u8, request: Request) -> Result<(Word, u64), Fail>
     requires from_one { 1 ≤ actor }
     requires to_eight { actor ≤ 8 }
-    ensures { core.new.opening ≡ core.old.opening }
 {
-    assert!(rt; is_idle(core));
     counted::<Brand>(core, actor, request, Blank::new(1))
 }
 
@@ -370,11 +462,9 @@ fn counted<L: Ledger>(
 ) -> Result<(Word, u64), Fail>
     requires from_one { 1 ≤ actor }
     requires to_eight { actor ≤ 8 }
-    requires idle { phase core.old.past ≡ Idle }
     requires name { blank.name ≡ L.name }
     requires parts { blank.parts ≡ L.parts }
     requires some { 0 < blank.parts }
-    ensures { core.new.opening ≡ core.old.opening }
 {
     let mut steps = Steps::<L>::new(blank);
     let reply = core.client(actor, request, &mut steps)?;
@@ -391,9 +481,8 @@ fn expect(
 ) -> Result<(), Fail>
     requires from_one { 1 ≤ actor }
     requires to_eight { actor ≤ 8 }
-    ensures { core.new.opening ≡ core.old.opening }
 {
-    let heard = ask(rt, core, actor, request)?;
+    let heard = ask(core, actor, request)?;
     assert_eq!(rt; heard, wanted);
     Ok(())
 }
@@ -402,7 +491,6 @@ fn expect(
 fn begin(rt: &impl Abort, core: &mut Core, actor: u8, txn: u64) -> Result<(), Fail>
     requires from_one { 1 ≤ actor }
     requires to_eight { actor ≤ 8 }
-    ensures { core.new.opening ≡ core.old.opening }
 {
     expect(rt, core, actor, Request::Begin, (Word::Begun, txn))
 }
@@ -418,9 +506,7 @@ fn second_of(row: &Row) -> u64 {
 // A transformation starts, and its mark is this.
 fn assert_started(rt: &impl Abort, core: &mut Core, spec: Spec, mark: u64) -> Result<(), Fail>
     requires shaped { IsShaped spec }
-    requires fits { spec_fault core.old.opening.catalog spec ≡ None }
 {
-    assert!(rt; is_idle(core));
     let reply = core.start(spec, Strategy::Blocking)?;
     assert!(rt; matches!(reply, Reply::Started { lsn } if lsn == mark));
     Ok(())
@@ -428,79 +514,32 @@ fn assert_started(rt: &impl Abort, core: &mut Core, spec: Spec, mark: u64) -> Re
 
 // A scan turn of two rows sees these.
 fn assert_scan(rt: &impl Abort, core: &mut Core, wanted: &[u64], over: bool) -> Result<(), Fail> {
-    assert!(rt; is_scanning(core));
-    match core.scan(2)? {
+    let out = scan(core)?;
+    assert_eq!(rt; out.seen.len(), wanted.len() as u64);
+    match &out.reply {
         Reply::Scanned { side, lsns, last } => {
-            assert_eq!(rt; side, 0);
+            assert_eq!(rt; *side, 0);
             assert_eq!(rt; lsns.as_slice(), wanted);
-            assert_eq!(rt; last, over);
+            assert_eq!(rt; *last, over);
             Ok(())
         }
         _ => Err(Fail::new("no scan")),
     }
 }
 
-// A live transaction with a lock on the source hinders the switch, the least of two.
-fn assert_hindered(rt: &impl Abort, alloc: Global, core: &mut Core, split: Spec) -> Result<(), Fail>
-    requires shaped { IsShaped split }
-    requires fits { spec_fault core.old.opening.catalog split ≡ None }
+// A scan turn of two rows.
+fn scan(core: &mut Core) -> Result<ScanOut, Fail> {
+    counted_scan::<Brand>(core, Blank::new(1))
+}
+
+// The same, on a counter that nobody reads.
+fn counted_scan<L: Ledger>(core: &mut Core, blank: Blank) -> Result<ScanOut, Fail>
+    requires name { blank.name ≡ L.name }
+    requires parts { blank.parts ≡ L.parts }
+    requires some { 0 < blank.parts }
 {
-    read_rows(rt, alloc, core)?;
-    assert_started(rt, core, split, 1)?;
-    assert_scan(rt, core, &[], true)?;
-    assert_conflict(rt, core, 2)
-}
-
-// The switch waits for the end of this transaction.
-fn assert_conflict(rt: &impl Abort, core: &mut Core, least: u64) -> Result<(), Fail> {
-    assert!(rt; is_chasing(core));
-    let reply = core.switch()?;
-    assert!(rt; matches!(reply, Reply::Conflict { txn } if txn == least));
-    assert_eq!(rt; core.phase(), Phase::Draining);
-    Ok(())
-}
-
-// Three clients begin, and all but the first read.
-fn read_rows(rt: &impl Abort, alloc: Global, core: &mut Core) -> Result<(), Fail>
-    ensures { core.new.opening ≡ core.old.opening }
-{
-    begin(rt, core, 1, 1)?;
-    begin(rt, core, 2, 2)?;
-    begin(rt, core, 3, 3)?;
-    expect(rt, core, 3, read_of(alloc, 2)?, (Word::Absent, 0))?;
-    expect(rt, core, 2, read_of(alloc, 1)?, (Word::Absent, 0))
-}
-
-fn assert_switched(rt: &impl Abort, core: &mut Core) -> Result<(), Fail> {
-    assert!(rt; is_chasing(core));
-    let reply = core.switch()?;
-    assert!(rt; matches!(reply, Reply::Switched { lsn: 6 }));
-    assert_eq!(rt; core.phase(), Phase::Done);
-    Ok(())
-}
-
-// The rows are in their parts.
-fn assert_parts(rt: &impl Abort, alloc: Global, core: &Core) -> Result<(), Fail> {
-    assert_row(rt, alloc, core, b"high", 2, 20)?;
-    assert_row(rt, alloc, core, b"low", 1, 5)?;
-    assert_row(rt, alloc, core, b"low", 3, 7)
-}
-
-// The new table of this name has this row, and no record put it there.
-fn assert_row(
-    rt: &impl Abort,
-    alloc: Global,
-    core: &Core,
-    name: &[u8],
-    id: i64,
-    v: i64,
-) -> Result<(), Fail> {
-    let name = Name::new(alloc, name)?;
-    let table = core.new_tables().find(&name).ok_or("no table")?;
-    let (row, lsn) = uncounted::get(table, &key_of(alloc, id)?).ok_or("no row")?;
-    assert_eq!(rt; *row, row_of(alloc, id, v)?);
-    assert_eq!(rt; lsn, 0);
-    Ok(())
+    let mut steps = Steps::<L>::new(blank);
+    Ok(core.scan(2, &mut steps)?)
 }
 
 fn is_idle(core: &Core) -> bool
@@ -509,22 +548,9 @@ fn is_idle(core: &Core) -> bool
     matches!(core.phase(), Phase::Idle)
 }
 
-fn is_scanning(core: &Core) -> bool
-    ensures { IsTrue result → phase core.now.past ≡ Scanning }
-{
-    matches!(core.phase(), Phase::Scanning)
-}
-
-fn is_chasing(core: &Core) -> bool
-    ensures { IsTrue result → phase core.now.past ≡ Chasing }
-{
-    matches!(core.phase(), Phase::Chasing)
-}
-
 // The machine with the table t.
 fn machine_of(rt: &impl Abort, alloc: Global) -> Result<Core, Fail> {
-    let split = high_and_low(alloc)?;
-    machine(rt, alloc, &split)
+    Ok(Core::make(alloc, catalog(rt, alloc)?, Loads::new(alloc))?)
 }
 
 // The machine with the table t, in which transaction 1 has put the row 1, 10.
@@ -566,18 +592,15 @@ fn load_of(alloc: Global, table: &[u8], id: i64) -> Result<Load, Fail> {
     })
 }
 
-// The machine with the table t, which this transformation fits.
-fn machine(rt: &impl Abort, alloc: Global, spec: &Spec) -> Result<Core, Fail>
-    requires { IsShaped spec.now }
-    ensures { IfOk result (λ core. spec_fault core.opening.catalog spec.now ≡ None) }
-{
-    let catalog = catalog(rt, alloc)?;
-    assert!(rt; spec.check(alloc, &catalog).is_ok());
-    Ok(Core::make(alloc, catalog, Loads::new(alloc))?)
-}
-
 // The split of t into the rows whose v is at least 10, and the others.
 fn high_and_low(alloc: Global) -> Result<Spec, Fail>
+    ensures { IfOk result IsShaped }
+{
+    split_of(alloc, b"t")
+}
+
+// The same of another table.
+fn split_of(alloc: Global, table: &[u8]) -> Result<Spec, Fail>
     ensures { IfOk result IsShaped }
 {
     let mut tests = Tests::new(alloc);
@@ -587,7 +610,7 @@ fn high_and_low(alloc: Global) -> Result<Spec, Fail>
         value: Value::Int(10),
     })?;
     Ok(Spec::Part {
-        table: Name::new(alloc, b"t")?,
+        table: Name::new(alloc, table)?,
         tests,
         yes: Name::new(alloc, b"high")?,
         no: Name::new(alloc, b"low")?,

@@ -21,7 +21,7 @@ impl Core {
         request: Request,
         reply: Reply,
     ) -> Result<Reply, CoreFault>
-        requires comes { Comes self.old actor }
+        requires comes { Comes actor }
         requires place { HasPlace self.old }
         requires answered { client_reply self.old.opening self.old.past actor request ≡ reply }
         requires quiet { effect reply ≡ Nothing }
@@ -39,7 +39,7 @@ impl Core {
 
     // Begins a transaction of the client's.
     pub(crate) fn begin(&mut self, actor: u8) -> Result<Reply, CoreFault>
-        requires comes { Comes self.old actor }
+        requires comes { Comes actor }
         requires place { HasPlace self.old }
         requires outside { txn_of self.old.past actor ≡ None }
         ensures { AnswersClient self.old self.new actor Request.Begin result }
@@ -58,7 +58,7 @@ impl Core {
 
     // Commits the client's transaction. It takes no memory.
     pub(crate) fn commit(&mut self, actor: u8, txn: u64) -> Result<Reply, CoreFault>
-        requires comes { Comes self.old actor }
+        requires comes { Comes actor }
         requires inside { IsInside self.old actor txn }
         ensures answer { AnswersClient self.old self.new actor Request.Commit result }
         ensures done { IsOk result }
@@ -80,7 +80,7 @@ impl Core {
         txn: u64,
         steps: &mut Steps<L>,
     ) -> Result<Reply, CoreFault>
-        requires comes { Comes self.old actor }
+        requires comes { Comes actor }
         requires place { HasPlace self.old }
         requires inside { txn_of self.old.past actor ≡ Some txn }
         ensures { AnswersClient self.old self.new actor Request.Undo result }

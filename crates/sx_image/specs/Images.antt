@@ -1,6 +1,9 @@
 -- For which copy an image stands.
-use Rattle.std.specs.Prelude.{◌≡◌, ◌==◌, ⊤, ℕ, suc, List, [], ◌∷◌, map, Option, Some, None, IfSome, if◌then◌else◌}
+use Rattle.std.specs.Prelude.{◌≡◌, ◌+◌, ◌==◌, ⊤, ℕ, suc, List, [], ◌∷◌, length, map, Option, Some, None, IfSome, if◌then◌else◌}
+use Rattle.std.specs.List.{AllByRecursion}
 use Rattle.sx_values.specs.Catalogs.{schema_of}
+use Rattle.sx_log.specs.Images.{FitsTables}
+use Rattle.sx_log.specs.declared.record.Rec.{Rec}
 use Rattle.sx_values.specs.declared.value.Value.{Value}
 use Rattle.sx_values.specs.declared.catalog.Declared.{Declared}
 use Rattle.sx_log.specs.State.{Stored}
@@ -75,6 +78,25 @@ Populates side seen old new = (catalog : List Declared) (spec : Spec) (copy : Co
 -- for whatever copy the old image stood, the new one stands for the copy behind this record, at its place
 abbrev pub Applies : ℕ → Body → (old new : Kind) → Type 0
 Applies place body old new = (catalog : List Declared) (spec : Spec) (copy : Copy) (before : ℕ) → StandsFor catalog spec copy before old → StandsFor catalog spec (copy_behind spec place body copy) place new
+
+-- a copy behind the records that follow a place, the oldest first
+abbrev pub copy_behind_all : Spec → ℕ → List Rec → Copy → Copy
+copy_behind_all spec place [] copy = copy
+copy_behind_all spec place (r ∷ recs) copy = copy_behind_all spec (place + 1) recs (copy_behind spec (place + 1) r.body copy)
+
+-- records that follow the position of an image up to a place, and whose images fit the tables of its transformation
+pub record CanFollow (recs : List Rec) (end : ℕ) (image : Kind) : Type 0 where
+  pub catalog : List Declared
+  pub spec : Spec
+  pub copy : Copy
+  pub place : ℕ
+  pub stands : StandsFor catalog spec copy place image
+  pub ends : place + length recs ≡ end
+  pub fit : AllByRecursion (λ (r : Rec). FitsTables (schema_of catalog) r.body) recs
+
+-- for whatever copy the old image stood, the new one stands for the copy behind these records, at the place of the last one
+abbrev pub Follows : List Rec → ℕ → (old new : Kind) → Type 0
+Follows recs end old new = (catalog : List Declared) (spec : Spec) (copy : Copy) (place : ℕ) → place + length recs ≡ end → StandsFor catalog spec copy place old → StandsFor catalog spec (copy_behind_all spec place recs copy) end new
 
 -- the rows of one side of a copy, in key order
 abbrev pub IsCopied : List Declared → List ℕ → ℕ → Copy → List Seen → Type 0

@@ -1,7 +1,7 @@
 // One image for each transformation.
 ghost use Rattle.std.specs.Prelude.{◌≡◌, ◌≤◌, [], OnOk, OnErr, IfOk, IsErr};
 ghost use Rattle.sx_ops.specs.Checks.{IsShaped, spec_fault};
-ghost use Rattle.sx_image.specs.Images.{StandsFor, IsDead, Populates, Applies, AreTablesOf, FitsScan, FitsRecord, no_copy, position_in};
+ghost use Rattle.sx_image.specs.Images.{StandsFor, IsDead, Populates, Applies, AreTablesOf, FitsScan, FitsRecord, CanFollow, Follows, no_copy, position_in};
 
 use std::alloc::{AllocError, Global};
 use std::marker::Model;
@@ -109,6 +109,28 @@ impl Image {
             Kind::Dead => Err(AllocError),
             Kind::Part(image) => image.apply(place, rec, steps),
         }
+    }
+
+    /// Takes in the next records of the log, in order; the last one stands at the place `end`.
+    ///
+    /// After want of memory the image is dead.
+    #[tactic(auto, using(crate::proofs::FollowLemmas::first_fits, crate::proofs::FollowLemmas::rest_follows, crate::proofs::FollowLemmas::both_follow, crate::proofs::FollowLemmas::none_follow))]
+    pub fn follow<L: Ledger>(
+        &mut self,
+        recs: &[Rec],
+        end: u64,
+        steps: &mut Steps<L>,
+    ) -> Result<(), AllocError>
+        requires next { CanFollow recs.now end self.old }
+        ensures ok { OnOk result (Follows recs.now end self.old self.new) }
+        ensures err { OnErr result (IsDead self.new) }
+        ensures kept { steps.old ≤ steps.new }
+    {
+        let [first, rest @ ..] = recs else {
+            return Ok(());
+        };
+        self.apply(end - rest.len() as u64, first, steps)?;
+        self.follow(rest, end, steps)
     }
 
     /// The new tables: the transformation of the copy's rows. No record put them there, so each has LSN 0.

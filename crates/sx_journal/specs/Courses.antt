@@ -1,5 +1,5 @@
 -- How a client works through its lines, by the answers that it gets. Its own entries are seen newest first.
-use Rattle.std.specs.Prelude.{◌≡◌, ◌+◌, ◌≤◌, Bool, true, false, ℕ, List, [], ◌∷◌, drop, length, nat_lt, Option, Some, None, option_map, position, slice_get, if◌then◌else◌}
+use Rattle.std.specs.Prelude.{◌≡◌, ◌+◌, Bool, true, false, ℕ, List, [], ◌∷◌, drop, length, nat_lt, Option, Some, None, option_map, position, slice_get, if◌then◌else◌}
 use Rattle.sx_journal.specs.declared.entry.Entry.{Entry}
 use Rattle.sx_journal.specs.declared.entry.Event.{Event}
 use Rattle.sx_journal.specs.declared.entry.Event.TheVariants.{Client}

@@ -1,7 +1,7 @@
 // Copies of entries and their parts.
 ghost use Rattle.std.specs.Prelude.{◌≡◌, IfOk};
 
-use crate::{Entry, Event, Reply, Request, What};
+use crate::{Entry, Event, PropLine, Reply, Request, What};
 use std::alloc::{AllocError, Global};
 use sx_lists::Copied;
 
@@ -37,6 +37,12 @@ impl Copied for What {
             What::Ask(request) => Ok(What::Ask(request.copy(alloc)?)),
             What::Abort => Ok(What::Abort),
         }
+    }
+}
+
+impl Copied for PropLine {
+    fn copy(&self, _alloc: Global) -> Result<Self, AllocError> {
+        Ok(*self)
     }
 }
 

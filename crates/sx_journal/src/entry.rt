@@ -24,6 +24,18 @@ pub enum What {
     Abort,
 }
 
+/// A line of the propagator.
+#[derive(Clone, Copy, Debug, PartialEq, Eq)]
+pub enum PropLine {
+    Start,
+    Check,
+    Switch,
+    /// A scan turn of at most `n` rows.
+    Scan { n: u64 },
+    /// At most `n` records of the log.
+    Fetch { n: u64 },
+}
+
 /// One turn of the machine.
 #[derive(Debug, Drop)]
 pub enum Event {

@@ -12,7 +12,7 @@ mod tests;
 
 pub use actors::own;
 pub use course::{Command, Commands, Course, Standing};
-pub use entry::{Entry, Event, Reply, Request, What};
+pub use entry::{Entry, Event, PropLine, Reply, Request, What};
 use sx_lists::Reserved;
 
 /// The journal, seen newest first. Entries count from 1.

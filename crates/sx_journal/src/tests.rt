@@ -1,5 +1,5 @@
 // A journal that is written and read, and copies of its entries.
-use crate::{Entry, Event, Journal, Reply, Request, What, own};
+use crate::{Entry, Event, Journal, PropLine, Reply, Request, What, own};
 use std::alloc::Global;
 use std::test::Fail;
 use sx_lists::{Copied, Same};
@@ -98,6 +98,13 @@ fn requests_are_copied(rt: HostRuntime) -> Result<(), Fail> {
         What::Ask(request) => assert!(rt; puts_in(&request, &row(alloc, 7)?)),
         What::Abort => panic!(rt; "another request"),
     }
+    Ok(())
+}
+
+#[test]
+fn lines_of_the_propagator_are_copied(rt: HostRuntime) -> Result<(), Fail> {
+    let copied = PropLine::Scan { n: 64 }.copy(rt.alloc())?;
+    assert_eq!(rt; copied, PropLine::Scan { n: 64 });
     Ok(())
 }
 

@@ -14,6 +14,8 @@ use Rattle.sx_values.specs.Layouts.{Layout, IsLayout}
 use Rattle.sx_values.specs.SchemaFaults.{schema_fault}
 use Rattle.sx_values.specs.Catalogs.{schema_of, declared_as, IsTable, IsCatalog}
 use Rattle.sx_ops.specs.declared.spec.Spec.{Spec}
+use Rattle.sx_sync.specs.declared.Strategy.{Strategy}
+use Rattle.sx_journal.specs.declared.entry.PropLine.{PropLine}
 use Rattle.sx_journal.specs.declared.entry.Request.TheVariants as request
 use Rattle.sx_journal.specs.declared.entry.What.{What}
 use Rattle.sx_journal.specs.declared.entry.What.TheVariants.{Ask, Abort}
@@ -24,16 +26,13 @@ use Rattle.sx_lines.specs.declared.line.Line.TheVariants as line
 use Rattle.sx_lines.specs.Lines.{when, parted, behind, same_bytes, words, named, is_short_name, is_passed_over}
 use Rattle.sx_lines.specs.Columns.{layout_over, no_columns, declarable}
 use Rattle.sx_lines.specs.Fields.{row_shown, key_shown, spec_shown}
-use Rattle.sx_lines.specs.Forms.{HasLayouts, table_in, row_in, key_in, loads, reads, inserts, updates, deletes, choose, what_in, digit_in, client_in, line_of}
-use Rattle.sx_lines.specs.Printing.{named_text, columns_text, what_text, line_text, column_text, is_key_place}
-use Rattle.sx_lines.proofs.NameLaws.{and_left, and_both, parted_front, printable_append, IsNamed, is_named}
+use Rattle.sx_lines.specs.Forms.{HasLayouts, table_in, row_in, key_in, loads, reads, inserts, updates, deletes, choose, what_in, digit_in, strategy_in, pace_in, client_in, line_of}
+use Rattle.sx_lines.specs.Printing.{named_text, columns_text, strategy_text, pace_text, what_text, line_text, column_text, is_key_place}
+use Rattle.sx_lines.proofs.NameLaws.{when_some, and_left, and_both, parted_front, printable_append, IsNamed, is_named}
 use Rattle.sx_lines.proofs.ColumnLaws.{column_words, words_of_columns, printable_columns, AreRead, columns_again}
 use Rattle.sx_lines.proofs.FieldLaws.{IsShown, row_again, key_again}
 use Rattle.sx_lines.proofs.SpecLaws.{IsSpelled, spec_again}
-
-when_some : {A : Type 0} (t : Bool) (x y : A) → when t x ≡ Some y → (t ≡ true) × (x ≡ y)
-when_some true x y e = (refl, cc)
-when_some false x y e = absurd (cc)
+use Rattle.sx_lines.proofs.PaceLaws.{IsPaceText, strategy_again, pace_again}
 
 -- ---- declared tables
 
@@ -135,6 +134,14 @@ at_retries : (catalog : List Declared) (text : List ℕ) → line_of catalog (co
 unfolding line_of
 at_retries catalog text = refl
 
+at_strategy : (catalog : List Declared) (text : List ℕ) → line_of catalog (codes "strategy " ++ text) ≡ option_map line.Strategy (strategy_in text)
+unfolding line_of
+at_strategy catalog text = refl
+
+at_pace : (catalog : List Declared) (text : List ℕ) → line_of catalog (codes "p " ++ text) ≡ option_map line.Pace (pace_in text)
+unfolding line_of
+at_pace catalog text = refl
+
 at_client : (catalog : List Declared) (b : ℕ) (text : List ℕ) → (b == 104) ≡ false → line_of catalog (99 ∷ b ∷ text) ≡ client_in catalog (b ∷ text)
 unfolding line_of
 at_client catalog b text other = rw other refl
@@ -158,6 +165,28 @@ change_line_again catalog l (Some spec) is e =
     subst (IsAgain catalog) same (record {
       again = at_change catalog (spec_text spec) ∙ ap (option_map line.Change) n.again;
       printable = printable_append (codes "change ") (spec_text spec) refl n.printable;
+      meant = refl;
+    })
+
+strategy_line_again : (catalog : List Declared) (l : Line) (found : Option Strategy) → option_map line.Strategy found ≡ Some l → IsAgain catalog l
+strategy_line_again catalog l None e = absurd (cc)
+strategy_line_again catalog l (Some s) e =
+    let n = strategy_again s in
+    let same : line.Strategy s ≡ l = cc in
+    subst (IsAgain catalog) same (record {
+      again = at_strategy catalog (strategy_text s) ∙ ap (option_map line.Strategy) n.again;
+      printable = printable_append (codes "strategy ") (strategy_text s) refl n.printable;
+      meant = refl;
+    })
+
+pace_line_again : (catalog : List Declared) (l : Line) (found : Option PropLine) → ((pace : PropLine) → found ≡ Some pace → IsPaceText pace) → option_map line.Pace found ≡ Some l → IsAgain catalog l
+pace_line_again catalog l None is e = absurd (cc)
+pace_line_again catalog l (Some pace) is e =
+    let n = is pace refl in
+    let same : line.Pace pace ≡ l = cc in
+    subst (IsAgain catalog) same (record {
+      again = at_pace catalog (pace_text pace) ∙ ap (option_map line.Pace) n.again;
+      printable = printable_append (codes "p ") (pace_text pace) refl n.printable;
       meant = refl;
     })
 
@@ -363,13 +392,16 @@ client_again catalog text l has e = by (parted 32 text) e
 -- what a text shows as a line is read again from the line's text
 pub line_again : (catalog : List Declared) (text : List ℕ) (l : Line) → HasLayouts catalog → line_of catalog text ≡ Some l → IsAgain catalog l
 unfolding line_of
-line_again catalog text l has e = by (behind (codes "row ") text) (behind (codes "table ") text) (behind (codes "change ") text) (behind (codes "retries ") text) (behind (codes "c") text) e
+line_again catalog text l has e = by (behind (codes "row ") text) (behind (codes "table ") text) (behind (codes "change ") text) (behind (codes "retries ") text) (behind (codes "strategy ") text) (behind (codes "p ") text) (behind (codes "c") text) e
   where
-    by : (row table change retries client : Option (List ℕ))
-        → choose row (λ rest. option_map loads (row_in catalog rest)) (choose table table_in (choose change (λ rest. option_map line.Change (spec_shown rest)) (choose retries (λ rest. option_map line.Retries (digit_in 0 8 rest)) (choose client (client_in catalog) None)))) ≡ Some l → IsAgain catalog l
-    by (Some rest) table change retries client f = row_line_again catalog l (row_in catalog rest) (λ parts g. row_text_again catalog rest parts has g) f
-    by None (Some rest) change retries client f = table_again catalog rest l f
-    by None None (Some rest) retries client f = change_line_again catalog l (spec_shown rest) (λ spec g. spec_again rest spec g) f
-    by None None None (Some rest) client f = retries_again catalog l rest (digit_in 0 8 rest) refl f
-    by None None None None (Some rest) f = client_again catalog rest l has f
-    by None None None None None f = absurd (cc)
+    by : (row table change retries strategy pace client : Option (List ℕ))
+        → choose row (λ rest. option_map loads (row_in catalog rest)) (choose table table_in (choose change (λ rest. option_map line.Change (spec_shown rest)) (choose retries (λ rest. option_map line.Retries (digit_in 0 8 rest))
+        (choose strategy (λ rest. option_map line.Strategy (strategy_in rest)) (choose pace (λ rest. option_map line.Pace (pace_in rest)) (choose client (client_in catalog) None)))))) ≡ Some l → IsAgain catalog l
+    by (Some rest) table change retries strategy pace client f = row_line_again catalog l (row_in catalog rest) (λ parts g. row_text_again catalog rest parts has g) f
+    by None (Some rest) change retries strategy pace client f = table_again catalog rest l f
+    by None None (Some rest) retries strategy pace client f = change_line_again catalog l (spec_shown rest) (λ spec g. spec_again rest spec g) f
+    by None None None (Some rest) strategy pace client f = retries_again catalog l rest (digit_in 0 8 rest) refl f
+    by None None None None (Some rest) pace client f = strategy_line_again catalog l (strategy_in rest) f
+    by None None None None None (Some rest) client f = pace_line_again catalog l (pace_in rest) (λ pace g. pace_again rest pace g) f
+    by None None None None None None (Some rest) f = client_again catalog rest l has f
+    by None None None None None None None f = absurd (cc)

@@ -1,10 +1,14 @@
 -- Names within lines.
-use Rattle.std.proofs.Common.{◌≡◌, ◌≤◌, ◌+◌, ◌++◌, ◌==◌, ◌&&◌, ◌||◌, ℕ, Bool, true, false, not, nat_le, List, [], ◌∷◌, length, Some, refl, ◌∙◌, subst, arith, eqb-true, eq-eqb}
+use Rattle.std.proofs.Common.{◌≡◌, ◌≤◌, ◌++◌, ◌==◌, ◌&&◌, ◌||◌, ℕ, Bool, true, false, not, nat_le, List, [], ◌∷◌, length, Some, refl, ◌∙◌, subst, arith, eqb-true, eq-eqb}
 use Rattle.std.specs.List.{list_all}
 use Rattle.std.proofs.lemmas.Bool.Decides.{nat_tests}
 use Rattle.std.proofs.lemmas.List.Folds.{list_all-append}
 use Rattle.sx_values.specs.Texts.{is_printable, is_name, is_name_byte, is_lower, is_digit}
-use Rattle.sx_lines.specs.Lines.{parted, words, text_lines, is_short_name}
+use Rattle.sx_lines.specs.Lines.{when, parted, words, text_lines, is_short_name}
+
+pub when_some : {A : Type 0} (t : Bool) (x y : A) → when t x ≡ Some y → (t ≡ true) × (x ≡ y)
+when_some true x y e = (refl, cc)
+when_some false x y e = absurd (cc)
 
 pub and_left : (a b : Bool) → (a && b) ≡ true → (a ≡ true) × (b ≡ true)
 and_left true true e = (refl, refl)
@@ -99,7 +103,7 @@ name_byte_printable b e = by (is_lower b) (is_digit b) (b == 95) refl refl refl 
     by false false true f g h e = let s : b ≡ 95 = eqb-true b 95 h in within (omega arith) (omega arith)
     by false false false f g h e = absurd (cc)
 
-all_implied : (p q : ℕ → Bool) → ((b : ℕ) → p b ≡ true → q b ≡ true) → (bytes : List ℕ) → list_all p bytes ≡ true → list_all q bytes ≡ true
+pub all_implied : (p q : ℕ → Bool) → ((b : ℕ) → p b ≡ true → q b ≡ true) → (bytes : List ℕ) → list_all p bytes ≡ true → list_all q bytes ≡ true
 all_implied p q i [] e = refl
 all_implied p q i (b ∷ bytes) e =
     let r = and_left (p b) (list_all p bytes) e in

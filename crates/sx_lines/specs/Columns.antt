@@ -1,16 +1,15 @@
 -- The columns of a table line.
-use Rattle.std.specs.Prelude.{◌≡◌, ◌==◌, ◌++◌, ◌+◌, ◌≤◌, ◌<◌, Bool, true, false, not, is_some, ℕ, List, [], ◌∷◌, length, All, nat_eq, Option, Some, None, option_map, option_and_then, codes, if◌then◌else◌}
+use Rattle.std.specs.Prelude.{◌==◌, ◌++◌, ◌<◌, Bool, true, false, not, is_some, ℕ, List, [], ◌∷◌, length, All, nat_eq, Option, Some, None, option_map, option_and_then, codes, if◌then◌else◌}
 use Rattle.std.specs.List.{IsDistinct}
 use Rattle.sx_values.specs.declared.schema.Kind.{Kind}
 use Rattle.sx_values.specs.declared.schema.Kind.TheVariants as kind
-use Rattle.sx_values.specs.declared.schema.Column.{Column}
 use Rattle.sx_values.specs.Layouts.{Layout}
 use Rattle.sx_values.specs.SchemaFaults.{schema_fault}
 use Rattle.sx_values.specs.Catalogs.{HasShortNames}
 use Rattle.sx_lines.specs.declared.columns.Mark.{Mark}
 use Rattle.sx_lines.specs.declared.columns.Mark.TheVariants as mark
 use Rattle.sx_lines.specs.declared.columns.Keyed.{Keyed}
-use Rattle.sx_lines.specs.Lines.{◌>>=◌, when, parted, behind, words, is_short_name, named}
+use Rattle.sx_lines.specs.Lines.{◌>>=◌, when, parted, behind, is_short_name}
 
 -- what stands behind a column's kind: nothing, the star of a key column, or the sign of a column that takes Null
 abbrev pub mark_in : List ℕ → Option Mark

@@ -6,11 +6,11 @@ use Rattle.sx_values.specs.declared.value.Value.{Value}
 use Rattle.sx_values.specs.declared.schema.Kind.{Kind}
 use Rattle.sx_values.specs.declared.schema.Kind.TheVariants as kind
 use Rattle.sx_values.specs.declared.schema.Column.{Column}
-use Rattle.sx_values.specs.Layouts.{Layout}
-use Rattle.sx_ops.specs.declared.spec.Spec.{Spec}
 use Rattle.sx_ops.specs.Checks.{IsPart}
 use Rattle.sx_sync.specs.declared.Strategy.{Strategy}
 use Rattle.sx_sync.specs.declared.Strategy.TheVariants as strategy
+use Rattle.sx_journal.specs.declared.entry.PropLine.{PropLine}
+use Rattle.sx_journal.specs.declared.entry.PropLine.TheVariants as pace
 use Rattle.sx_journal.specs.declared.entry.Request.{Request}
 use Rattle.sx_journal.specs.declared.entry.Request.TheVariants as request
 use Rattle.sx_journal.specs.declared.entry.What.{What}
@@ -18,8 +18,6 @@ use Rattle.sx_journal.specs.declared.entry.What.TheVariants.{Ask, Abort}
 use Rattle.sx_text.specs.Records.{record_text}
 use Rattle.sx_lines.specs.declared.line.Line.{Line}
 use Rattle.sx_lines.specs.declared.line.Line.TheVariants as line
-use Rattle.sx_lines.specs.declared.line.PropLine.{PropLine}
-use Rattle.sx_lines.specs.declared.line.PropLine.TheVariants as pace
 use Rattle.sx_lang.specs.Spelling.{spec_text}
 
 abbrev pub kind_text : Kind → List ℕ

@@ -1,18 +1,20 @@
 // The forms of lines.
 ghost use Rattle.std.specs.Prelude.{◌≡◌, ◌≤◌, IfOk, IfSome, option_map};
 ghost use Rattle.sx_lines.specs.Fields.{spec_shown};
-ghost use Rattle.sx_lines.specs.Forms.{row_in, key_in, table_in, what_in, digit_in, client_in, line_of, loads, reads, inserts, updates, deletes, IsFit};
+ghost use Rattle.sx_lines.specs.Forms.{row_in, key_in, table_in, what_in, digit_in, count_in, strategy_in, pace_in, client_in, line_of, loads, reads, inserts, updates, deletes, IsCount, IsPace, IsFit};
 
 use crate::Line;
 use crate::columns::draft_in;
 use crate::fields::{key_shown, row_shown, spec_shown};
 use crate::text::{behind, named, parted, same_bytes};
 use std::alloc::{AllocError, Global};
-use sx_journal::{Request, What};
+use sx_journal::{PropLine, Request, What};
 use sx_lists::Copied;
+use sx_sync::Strategy;
+use sx_text::number_of;
 use sx_values::{Catalog, Key, Name, Row};
 
-/// What a line shows, by the tables that are declared before it.
+/// What a line shows, by the tables that are known before it.
 #[tactic(auto, unfolding(crate::specs::Forms::line_of))]
 pub fn line_of(alloc: Global, catalog: &Catalog, text: &[u8]) -> Result<Option<Line>, AllocError>
     ensures line { IfOk result (λ line. line ≡ line_of catalog.now text.now) }
@@ -29,6 +31,12 @@ pub fn line_of(alloc: Global, catalog: &Catalog, text: &[u8]) -> Result<Option<L
     }
     if let Some(rest) = behind(b"retries ", text) {
         return Ok(retries_in(rest));
+    }
+    if let Some(rest) = behind(b"strategy ", text) {
+        return Ok(strategy_line(rest));
+    }
+    if let Some(rest) = behind(b"p ", text) {
+        return Ok(pace_line(rest));
     }
     if let Some(rest) = behind(b"c", text) {
         return client_in(alloc, catalog, rest);
@@ -62,6 +70,87 @@ fn retries_in(text: &[u8]) -> Option<Line>
 {
     let n = digit_in(0, 8, text)?;
     Some(Line::Retries { n })
+}
+
+fn strategy_line(text: &[u8]) -> Option<Line>
+    ensures line { result ≡ option_map Line.Strategy (strategy_in text.now) }
+    ensures fit { IfSome result IsFit }
+{
+    let strategy = strategy_in(text)?;
+    Some(Line::Strategy { strategy })
+}
+
+// The strategy that a word shows.
+#[tactic(auto, unfolding(crate::specs::Forms::strategy_in))]
+fn strategy_in(text: &[u8]) -> Option<Strategy>
+    ensures { result ≡ strategy_in text.now }
+{
+    if same_bytes(text, b"blocking") {
+        return Some(Strategy::Blocking);
+    }
+    if same_bytes(text, b"abort") {
+        return Some(Strategy::NonBlockingAbort);
+    }
+    if same_bytes(text, b"commit") {
+        return Some(Strategy::NonBlockingCommit);
+    }
+    None
+}
+
+fn pace_line(text: &[u8]) -> Option<Line>
+    ensures line { result ≡ option_map Line.Pace (pace_in text.now) }
+    ensures fit { IfSome result IsFit }
+{
+    Some(Line::Pace(pace_in(text)?))
+}
+
+// What the propagator does.
+#[tactic(auto, unfolding(crate::specs::Forms::pace_in))]
+fn pace_in(text: &[u8]) -> Option<PropLine>
+    ensures pace { result ≡ pace_in text.now }
+    ensures fit { IfSome result IsPace }
+{
+    if same_bytes(text, b"start") {
+        return Some(PropLine::Start);
+    }
+    if same_bytes(text, b"check") {
+        return Some(PropLine::Check);
+    }
+    if same_bytes(text, b"switch") {
+        return Some(PropLine::Switch);
+    }
+    if let Some(rest) = behind(b"scan ", text) {
+        return scan_in(rest);
+    }
+    if let Some(rest) = behind(b"fetch ", text) {
+        return fetch_in(rest);
+    }
+    None
+}
+
+fn scan_in(text: &[u8]) -> Option<PropLine>
+    ensures pace { result ≡ option_map PropLine.Scan (count_in 64 text.now) }
+    ensures fit { IfSome result IsPace }
+{
+    let n = count_in(64, text)?;
+    Some(PropLine::Scan { n })
+}
+
+fn fetch_in(text: &[u8]) -> Option<PropLine>
+    ensures pace { result ≡ option_map PropLine.Fetch (count_in 256 text.now) }
+    ensures fit { IfSome result IsPace }
+{
+    let n = count_in(256, text)?;
+    Some(PropLine::Fetch { n })
+}
+
+// The number that a decimal text shows, if it is from 1 to a greatest one.
+fn count_in(most: u64, text: &[u8]) -> Option<u64>
+    ensures count { result ≡ count_in most text.now }
+    ensures within { IfSome result (λ n. IsCount most n) }
+{
+    let n = number_of(text)?;
+    if 1 <= n && n <= most { Some(n) } else { None }
 }
 
 // The number that a text of one digit shows, if it is from a least to a greatest one.
@@ -178,7 +267,7 @@ fn delete_in(alloc: Global, catalog: &Catalog, text: &[u8]) -> Result<Option<Wha
     }
 }
 
-// A declared table's name and a row of its columns.
+// A known table's name and a row of its columns.
 #[tactic(auto, unfolding(crate::specs::Forms::row_in))]
 fn row_in(alloc: Global, catalog: &Catalog, text: &[u8]) -> Result<Option<(Name, Row)>, AllocError>
     ensures { IfOk result (λ parts. parts ≡ row_in catalog.now text.now) }
@@ -195,7 +284,7 @@ fn row_in(alloc: Global, catalog: &Catalog, text: &[u8]) -> Result<Option<(Name,
     Ok(Some((found.name.copy(alloc)?, row)))
 }
 
-// A declared table's name and a key of its key's columns.
+// A known table's name and a key of its key's columns.
 #[tactic(auto, unfolding(crate::specs::Forms::key_in))]
 fn key_in(alloc: Global, catalog: &Catalog, text: &[u8]) -> Result<Option<(Name, Key)>, AllocError>
     ensures { IfOk result (λ parts. parts ≡ key_in catalog.now text.now) }

@@ -13,6 +13,7 @@ mod text;
 
 pub use forms::line_of;
 pub use laws::lines_are_read_back;
-pub use line::{Line, PropLine};
+pub use line::Line;
 pub use print::put_line;
+pub use sx_journal::PropLine;
 pub use text::{are_printable, is_passed_over, next_line};

@@ -2,7 +2,7 @@
 ghost use Rattle.std.specs.Prelude.{◌≡◌, IfOk};
 
 use std::alloc::{AllocError, Global};
-use sx_journal::What;
+use sx_journal::{PropLine, What};
 use sx_lists::Copied;
 use sx_ops::Spec;
 use sx_sync::Strategy;
@@ -24,24 +24,6 @@ pub enum Line {
     Client { n: u8, what: What },
     /// What the propagator does.
     Pace(PropLine),
-}
-
-/// A step of the propagator.
-#[derive(Clone, Copy, Debug, PartialEq, Eq)]
-pub enum PropLine {
-    Start,
-    Check,
-    Switch,
-    /// A scan turn of at most `n` rows.
-    Scan { n: u64 },
-    /// At most `n` records of the log.
-    Fetch { n: u64 },
-}
-
-impl Copied for PropLine {
-    fn copy(&self, _alloc: Global) -> Result<Self, AllocError> {
-        Ok(*self)
-    }
 }
 
 impl Copied for Line {

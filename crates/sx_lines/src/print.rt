@@ -4,11 +4,11 @@ ghost use Rattle.std.specs.Fmt.{decimal};
 ghost use Rattle.sx_ops.specs.Checks.{IsPart};
 ghost use Rattle.sx_lines.specs.Printing.{column_text, columns_text, is_key_place, HasText, kind_text, mark_text, line_text, named_text, names_text, request_text};
 
+use crate::Line;
 use crate::fields::put_spec;
-use crate::{Line, PropLine};
 use itoa::Buffer;
 use std::alloc::{AllocError, Global};
-use sx_journal::{Request, What};
+use sx_journal::{PropLine, Request, What};
 use sx_ops::Spec;
 use sx_sync::Strategy;
 use sx_text::put_record;

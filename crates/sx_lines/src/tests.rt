@@ -148,6 +148,32 @@ fn a_delete_is_read_and_printed(rt: HostRuntime) -> Result<(), Fail> {
     assert_again(&rt, rt.alloc(), b"c6 delete t NULL")
 }
 
+#[test]
+fn each_strategy_is_read_and_printed(rt: HostRuntime) -> Result<(), Fail> {
+    assert_again(&rt, rt.alloc(), b"strategy blocking")?;
+    assert_again(&rt, rt.alloc(), b"strategy abort")?;
+    assert_again(&rt, rt.alloc(), b"strategy commit")
+}
+
+#[test]
+fn words_of_the_propagator_are_read_and_printed(rt: HostRuntime) -> Result<(), Fail> {
+    assert_again(&rt, rt.alloc(), b"p start")?;
+    assert_again(&rt, rt.alloc(), b"p check")?;
+    assert_again(&rt, rt.alloc(), b"p switch")
+}
+
+#[test]
+fn scans_of_1_to_64_rows_are_read_and_printed(rt: HostRuntime) -> Result<(), Fail> {
+    assert_again(&rt, rt.alloc(), b"p scan 1")?;
+    assert_again(&rt, rt.alloc(), b"p scan 64")
+}
+
+#[test]
+fn fetches_of_1_to_256_records_are_read_and_printed(rt: HostRuntime) -> Result<(), Fail> {
+    assert_again(&rt, rt.alloc(), b"p fetch 1")?;
+    assert_again(&rt, rt.alloc(), b"p fetch 256")
+}
+
 // A text shows no line, where there are two tables.
 fn assert_formless(rt: &impl Abort, alloc: Global, text: &[u8]) -> Result<(), Fail> {
     let catalog = two_tables(alloc)?;
@@ -252,13 +278,38 @@ fn an_index_is_not_read_yet(rt: HostRuntime) -> Result<(), Fail> {
 }
 
 #[test]
-fn a_strategy_is_not_read_yet(rt: HostRuntime) -> Result<(), Fail> {
-    assert_formless(&rt, rt.alloc(), b"strategy commit")
+fn a_strategy_of_no_name_has_no_form(rt: HostRuntime) -> Result<(), Fail> {
+    assert_formless(&rt, rt.alloc(), b"strategy block")
 }
 
 #[test]
-fn a_pace_is_not_read_yet(rt: HostRuntime) -> Result<(), Fail> {
-    assert_formless(&rt, rt.alloc(), b"p start")
+fn a_scan_of_no_rows_has_no_form(rt: HostRuntime) -> Result<(), Fail> {
+    assert_formless(&rt, rt.alloc(), b"p scan 0")
+}
+
+#[test]
+fn a_scan_of_65_rows_has_no_form(rt: HostRuntime) -> Result<(), Fail> {
+    assert_formless(&rt, rt.alloc(), b"p scan 65")
+}
+
+#[test]
+fn a_fetch_of_257_records_has_no_form(rt: HostRuntime) -> Result<(), Fail> {
+    assert_formless(&rt, rt.alloc(), b"p fetch 257")
+}
+
+#[test]
+fn a_fetch_with_a_leading_zero_has_no_form(rt: HostRuntime) -> Result<(), Fail> {
+    assert_formless(&rt, rt.alloc(), b"p fetch 08")
+}
+
+#[test]
+fn a_cancel_has_no_form(rt: HostRuntime) -> Result<(), Fail> {
+    assert_formless(&rt, rt.alloc(), b"p cancel")
+}
+
+#[test]
+fn a_start_with_a_space_behind_it_has_no_form(rt: HostRuntime) -> Result<(), Fail> {
+    assert_formless(&rt, rt.alloc(), b"p start ")
 }
 
 // A copy of a line has this text.
@@ -298,7 +349,7 @@ fn a_strategy_is_printed(rt: HostRuntime) -> Result<(), AllocError> {
 
 #[test]
 fn a_pace_is_printed(rt: HostRuntime) -> Result<(), AllocError> {
-    let pace = PropLine::Scan { n: 64 }.copy(rt.alloc())?;
+    let pace = PropLine::Scan { n: 64 };
     assert_text(&rt, rt.alloc(), &Line::Pace(pace), b"p scan 64")
 }
 

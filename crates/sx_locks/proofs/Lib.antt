@@ -1,3 +1,4 @@
 pub mod HolderLemmas
 pub mod LockLemmas
 pub mod PlaceLemmas
+pub mod TakeLemmas

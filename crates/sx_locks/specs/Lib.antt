@@ -2,3 +2,4 @@ pub mod Holding
 pub mod Locks
 pub mod Modes
 pub mod Places
+pub mod Taking

@@ -1,9 +1,11 @@
 // The transactions that hold one key.
 ghost use Rattle.std.specs.Prelude.{◌≡◌, ◌==◌, ◌↔◌, ℕ, [], ◌∷◌, Some, None, OnOk, OnErr, IfOk, IsTrue, if◌then◌else◌};
-ghost use Rattle.sx_locks.specs.Modes.{mode_of, stronger, IsLeastOf};
+ghost use Rattle.sx_locks.specs.Modes.{mode_of, IsLeastOf};
 ghost use Rattle.sx_locks.specs.Holding.{holders_in};
+ghost use Rattle.sx_locks.specs.Taking.{TakesAmong};
 
 use crate::Mode;
+use crate::mode::Taken;
 use std::alloc::{AllocError, Global};
 use std::collections::BTreeMap;
 use std::marker::Model;
@@ -91,21 +93,18 @@ impl Holders {
         Ok(())
     }
 
-    // Makes a transaction a holder in the stronger of its mode and this one, and answers its mode before. Want of memory
+    // Makes a transaction a holder in the stronger of its mode and this one, where no other holder's conflicts. Want of memory
     // changes nothing.
-    pub(crate) fn raise(
-        &mut self,
-        alloc: Global,
-        txn: u64,
-        mode: Mode,
-    ) -> Result<Option<Mode>, AllocError>
-        ensures held { IfOk result (λ held. held ≡ mode_of self.old txn) }
-        ensures ok { OnOk result ((other : ℕ) → mode_of self.new other ≡ (if txn == other then Some (stronger (mode_of self.old txn) mode) else mode_of self.old other)) }
+    pub(crate) fn ask(&mut self, alloc: Global, txn: u64, mode: Mode) -> Result<Taken, AllocError>
+        ensures ok { IfOk result (TakesAmong self.old self.new txn mode) }
         ensures err { OnErr result (self.new ≡ self.old) }
     {
+        if let Some(by) = self.least_other(txn, mode) {
+            return Ok(Taken::Hindered { by });
+        }
         let held = self.mode_of(txn);
         self.set(alloc, txn, mode.raised_from(held))?;
-        Ok(held)
+        Ok(Taken::Locked { held })
     }
 
     // Makes a transaction no holder, and answers whether there is none now.

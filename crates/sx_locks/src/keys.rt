@@ -1,10 +1,12 @@
 // The locks on the keys of one table.
-ghost use Rattle.std.specs.Prelude.{◌≡◌, [], Some, None, OnOk, OnErr, IfOk, IsTrue};
-ghost use Rattle.sx_locks.specs.Modes.{stronger, IsLeastOf};
+ghost use Rattle.std.specs.Prelude.{◌≡◌, [], None, OnErr, IfOk, IsTrue};
+ghost use Rattle.sx_locks.specs.Modes.{IsLeastOf};
 ghost use Rattle.sx_locks.specs.Locks.{holders_at, mode_at, SetsLockAt};
+ghost use Rattle.sx_locks.specs.Taking.{TakesAt};
 
 use crate::Mode;
 use crate::holders::Holders;
+use crate::mode::Taken;
 use std::alloc::{AllocError, Global};
 use std::collections::BTreeMap;
 use std::collections::btree_map::Entry;
@@ -56,25 +58,24 @@ impl KeyLocks {
         }
     }
 
-    // Locks a key in the stronger of this mode and what the transaction holds, and answers what it held. Want of memory
-    // changes no lock.
-    pub(crate) fn raise(
+    // Asks for a transaction's lock on a key: it holds then the stronger of what it held and this mode, where no other's lock
+    // conflicts. Want of memory changes no lock.
+    pub(crate) fn ask(
         &mut self,
         alloc: Global,
         txn: u64,
         key: &Key,
         mode: Mode,
-    ) -> Result<Option<Mode>, AllocError>
-        ensures held { IfOk result (λ held. held ≡ mode_at self.old txn key.now) }
-        ensures ok { OnOk result (SetsLockAt self.old self.new txn key.now (Some (stronger (mode_at self.old txn key.now) mode))) }
+    ) -> Result<Taken, AllocError>
+        ensures ok { IfOk result (TakesAt self.old self.new txn key.now mode) }
         ensures err { OnErr result (self.new ≡ self.old) }
     {
         match self.keys.entry(key.copy(alloc)?)? {
             Entry::Vacant(entry) => {
                 entry.insert(Holders::one(txn, mode));
-                Ok(None)
+                Ok(Taken::Locked { held: None })
             }
-            Entry::Occupied(entry) => entry.into_mut().raise(alloc, txn, mode),
+            Entry::Occupied(entry) => entry.into_mut().ask(alloc, txn, mode),
         }
     }
 

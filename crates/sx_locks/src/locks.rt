@@ -3,6 +3,7 @@ ghost use Rattle.std.specs.Prelude.{◌≡◌, ◌↔◌, [], IfOk, OnOk, OnErr,
 ghost use Rattle.sx_locks.specs.Locks.{mode_held, SameLocks, IsLeastOther, AnswersAsk, LockedSo, Freed, HoldsOn};
 ghost use Rattle.sx_locks.specs.Places.{FreesEach};
 
+use crate::mode::Taken;
 use crate::places::{Place, Places};
 use crate::tables::TableLocks;
 use crate::{Asked, Mode};
@@ -55,11 +56,18 @@ impl LockTable {
         ensures ok { IfOk result (AnswersAsk self.old self.new txn table.now key.now mode) }
         ensures err { OnErr result (SameLocks self.old self.new) }
     {
-        match self.locks.least_other(txn, table, key, mode) {
-            Some(by) => Ok(Asked::Held { by }),
-            None => {
-                self.grant(txn, table, key, mode)?;
-                Ok(Asked::Granted)
+        let held = match self.locks.ask(self.alloc, txn, table, key, mode)? {
+            Taken::Hindered { by } => return Ok(Asked::Held { by }),
+            Taken::Locked { held } => held,
+        };
+        if held.is_some() {
+            return Ok(Asked::Granted);
+        }
+        match self.places.add(self.alloc, txn, table, key) {
+            Ok(()) => Ok(Asked::Granted),
+            Err(error) => {
+                self.locks.free(txn, table, key);
+                Err(error)
             }
         }
     }
@@ -71,16 +79,9 @@ impl LockTable {
         ensures ok { OnOk result (LockedSo self.old self.new txn table.now key.now mode) }
         ensures err { OnErr result (SameLocks self.old self.new) }
     {
-        let held = self.locks.raise(self.alloc, txn, table, key, mode)?;
-        if held.is_some() {
-            return Ok(());
-        }
-        match self.places.add(self.alloc, txn, table, key) {
-            Ok(()) => Ok(()),
-            Err(error) => {
-                self.locks.free(txn, table, key);
-                Err(error)
-            }
+        match self.ask(txn, table, key, mode)? {
+            Asked::Granted => Ok(()),
+            Asked::Held { .. } => unreachable!(),
         }
     }
 

@@ -23,6 +23,13 @@ pub enum Asked {
     Held { by: u64 },
 }
 
+// What comes of asking for a lock: the least other transaction whose lock conflicts, or what the asking one held before.
+#[derive(Clone, Copy)]
+pub(crate) enum Taken {
+    Hindered { by: u64 },
+    Locked { held: Option<Mode> },
+}
+
 impl Copied for Mode {
     fn copy(&self, _alloc: Global) -> Result<Self, AllocError> {
         Ok(*self)

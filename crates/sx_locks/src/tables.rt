@@ -1,9 +1,11 @@
 // The locks on the keys of each table.
-ghost use Rattle.std.specs.Prelude.{◌≡◌, [], Some, None, OnOk, OnErr, IfOk};
-ghost use Rattle.sx_locks.specs.Locks.{mode_held, SetsLock, LockedSo, IsLeastOther};
+ghost use Rattle.std.specs.Prelude.{◌≡◌, [], None, OnErr, IfOk};
+ghost use Rattle.sx_locks.specs.Locks.{mode_held, SetsLock, IsLeastOther};
+ghost use Rattle.sx_locks.specs.Taking.{Takes};
 
 use crate::Mode;
 use crate::keys::KeyLocks;
+use crate::mode::Taken;
 use std::alloc::{AllocError, Global};
 use std::collections::BTreeMap;
 use std::marker::Model;
@@ -54,28 +56,27 @@ impl TableLocks {
         }
     }
 
-    // Locks a key of a table in the stronger of this mode and what the transaction holds, and answers what it held. Want of
-    // memory changes nothing.
-    pub(crate) fn raise(
+    // Asks for a transaction's lock on a key of a table: it holds then the stronger of what it held and this mode, where no
+    // other's lock conflicts. Want of memory changes nothing.
+    pub(crate) fn ask(
         &mut self,
         alloc: Global,
         txn: u64,
         table: &Name,
         key: &Key,
         mode: Mode,
-    ) -> Result<Option<Mode>, AllocError>
-        ensures held { IfOk result (λ held. held ≡ mode_held self.old txn table.now key.now) }
-        ensures ok { OnOk result (LockedSo self.old self.new txn table.now key.now mode) }
+    ) -> Result<Taken, AllocError>
+        ensures ok { IfOk result (Takes self.old self.new txn table.now key.now mode) }
         ensures err { OnErr result (self.new ≡ self.old) }
     {
         match self.tables.get_mut(table) {
-            Some(keys) => keys.raise(alloc, txn, key, mode),
+            Some(keys) => keys.ask(alloc, txn, key, mode),
             None => {
                 let name = table.copy(alloc)?;
                 let mut keys = KeyLocks::new(alloc);
-                keys.raise(alloc, txn, key, mode)?;
+                let taken = keys.ask(alloc, txn, key, mode)?;
                 self.tables.insert(name, keys)?;
-                Ok(None)
+                Ok(taken)
             }
         }
     }

@@ -10,7 +10,7 @@ use Rattle.sx_log.specs.declared.record.Body.TheVariants.{Write, Undo, Commit, A
 use Rattle.sx_log.specs.State.{Stored, stored, is_place, state_at}
 use Rattle.sx_log.specs.Copies.{unseen, redo, copied, redone}
 use Rattle.sx_model.specs.Scans.{is_about}
-use Rattle.sx_model.specs.Befores.{before_of, KeepsBefore}
+use Rattle.sx_model.specs.Befores.{before_of, KeepsSince}
 use Rattle.sx_model.proofs.StateLaws.{image_of, after_elsewhere, after_there}
 use Rattle.sx_model.proofs.TestLaws.{by_cases, chosen, passed}
 use Rattle.sx_model.proofs.LsnLaws.{halves, record_of, numbered_within, numbered-here, numbered-earlier}
@@ -141,7 +141,7 @@ redo_read log place table key None is = elim (redo_none log place table key) [
 redo_read log place table key (Some s) is = redo_kept log place table key s.0 s.1 (λ n x e a. newest log table key s.0 s.1 n x is e a)
 
 -- and each record behind it leaves the copy at the state
-pub converges : (newer log : List Rec) (mark : ℕ) (table : List ℕ) (key : List Value) → mark ≤ length log → KeepsBefore (newer ++ log) table key → redone (newer ++ log) mark table key (state_at log table key) ≡ state_at (newer ++ log) table key
+pub converges : (newer log : List Rec) (mark : ℕ) (table : List ℕ) (key : List Value) → mark ≤ length log → KeepsSince mark (newer ++ log) table key → redone (newer ++ log) mark table key (state_at log table key) ≡ state_at (newer ++ log) table key
 converges [] log mark table key from keeps = redo_read log mark table key (state_at log table key) refl
 converges (r ∷ newer) log mark table key from keeps =
     redone_more r (newer ++ log) mark table key (state_at log table key) (longer newer)
@@ -155,7 +155,7 @@ converges (r ∷ newer) log mark table key from keeps =
 
     there : redone (newer ++ log) mark table key (state_at log table key) ≡ state_at (newer ++ log) table key → is_about r.body table key ≡ true → (now : Option Stored) → state_at (newer ++ log) table key ≡ now → copied table (length (newer ++ log) + 1) r.body key (redone (newer ++ log) mark table key (state_at log table key)) ≡ state_at (r ∷ newer ++ log) table key
     there same a None now =
-        let absent : before_of r.body ≡ None = keeps.1 a ∙ ap (option_map (λ (s : Stored). s.0)) now in
+        let absent : before_of r.body ≡ None = keeps.1 (longer newer) a ∙ ap (option_map (λ (s : Stored). s.0)) now in
         copied_there table (length (newer ++ log) + 1) r.body key (redone (newer ++ log) mark table key (state_at log table key)) a
         ∙ ap (redo (length (newer ++ log) + 1) (before_of r.body) (image_of r.body)) (same ∙ now) ∙ ap (λ x. unseen (length (newer ++ log) + 1) x (image_of r.body)) absent
         ∙ sym (after_there (length (newer ++ log) + 1) r.body table key (state_at (newer ++ log) table key) a)

@@ -7,9 +7,9 @@ use Rattle.sx_values.specs.declared.value.Value.{Value}
 use Rattle.sx_log.specs.declared.record.Rec.{Rec}
 use Rattle.sx_log.specs.declared.record.Body.{Body}
 use Rattle.sx_log.specs.declared.record.Body.TheVariants.{Write, Undo, Commit, Abort, Mark, Check, Switch}
-use Rattle.sx_log.specs.State.{row_left}
 use Rattle.sx_log.specs.Undoing.{writes_left}
 use Rattle.sx_log.specs.Committed.{is_write, is_commit, commits, is_committed, committed}
+use Rattle.sx_model.specs.NewRows.{Firsts, row_from}
 use Rattle.sx_model.specs.LoadRecords.{IsLoaded}
 use Rattle.sx_model.specs.Leaves.{Living}
 use Rattle.sx_model.specs.Scans.{is_about}
@@ -28,13 +28,13 @@ pub record Ends (living next : List Living) (txn : ℕ) : Type 0 where
   pub others : (other : ℕ) → Lives living other → (other == txn) ≡ false → Lives next other
 
 -- a transaction that has no write left on a key may end
-ended_stands : (living next : List Living) (log : List Rec) (txn : ℕ) (table : List ℕ) (key : List Value) → Ends living next txn → touches log (writes_left txn log) table key ≡ false → Stands living log table key → Stands next log table key
-ended_stands living next log txn table key ends none (clear each same) = clear (λ other lives. each other (ends.lived other lives)) same
-ended_stands living next log txn table key ends none (held h) = by_cases (h.txn == txn)
+ended_stands : (f : Firsts) (living next : List Living) (log : List Rec) (txn : ℕ) (table : List ℕ) (key : List Value) → Ends living next txn → touches log (writes_left txn log) table key ≡ false → Stands f living log table key → Stands f next log table key
+ended_stands f living next log txn table key ends none (clear each same) = clear (λ other lives. each other (ends.lived other lives)) same
+ended_stands f living next log txn table key ends none (held h) = by_cases (h.txn == txn)
     (λ own.
     let is = eqb-true h.txn txn own in
     clear (λ other lives. h.alone other (ends.lived other lives) (ap (λ n. other == n) is ∙ ends.gone other lives))
-    (sym (rolled_back-untouched log (writes_left txn log) table key (row_left log table key) none) ∙ subst (λ n. RollsBack log n table key) is h.back))
+    (sym (rolled_back-untouched log (writes_left txn log) table key (row_from f log table key) none) ∙ subst (λ n. RollsBack f log n table key) is h.back))
     (λ other. held (record {
       txn = h.txn;
       lives = ends.others h.txn h.lives other;
@@ -48,17 +48,17 @@ pub silent_left : (log : List Rec) (x : Rec) (txn : ℕ) (table : List ℕ) (key
 silent_left log x txn table key quiet e = sym (ap (λ lsns. touches (x ∷ log) lsns table key) (left-silent x log txn quiet) ∙ touches-kept x log txn table key) ∙ e
 
 -- a record that notes something leaves each key as it stands
-pub noted_passes : (log : List Rec) (x : Rec) (table : List ℕ) (key : List Value) → is_silent x.body ≡ true → is_commit x.body ≡ false → is_write x.body ≡ false → Passes log x table key
-noted_passes log x table key quiet uncommitting unwriting =
-    silent_passes log x table key quiet (ap (λ rs. row_left rs table key) (committed-later x log uncommitting (rw unwriting refl)))
+pub noted_passes : (f : Firsts) (log : List Rec) (x : Rec) (table : List ℕ) (key : List Value) → is_silent x.body ≡ true → is_commit x.body ≡ false → is_write x.body ≡ false → Passes f log x table key
+noted_passes f log x table key quiet uncommitting unwriting =
+    silent_passes f log x table key quiet (ap (λ rs. row_from f rs table key) (committed-later x log uncommitting (rw unwriting refl)))
 
 -- behind an Abort of a transaction with no write left each key stands as it may
-pub aborted_stands : (living next : List Living) (log : List Rec) (txn : ℕ) (table : List ℕ) (key : List Value) → Ends living next txn → writes_left txn log ≡ [] → Stands living log table key → Stands next (record { txn = txn; body = Abort } ∷ log) table key
+pub aborted_stands : (f : Firsts) (living next : List Living) (log : List Rec) (txn : ℕ) (table : List ℕ) (key : List Value) → Ends living next txn → writes_left txn log ≡ [] → Stands f living log table key → Stands f next (record { txn = txn; body = Abort } ∷ log) table key
 unfolding is_silent is_commit is_write
-aborted_stands living next log txn table key ends empty at =
+aborted_stands f living next log txn table key ends empty at =
     let x : Rec = record { txn = txn; body = Abort } in
-    let p = noted_passes log x table key refl refl refl in
-    ended_stands living next (x ∷ log) txn table key ends (p.touch txn ∙ ap (λ lsns. touches log lsns table key) empty) (passes_by living log x table key p at)
+    let p = noted_passes f log x table key refl refl refl in
+    ended_stands f living next (x ∷ log) txn table key ends (p.touch txn ∙ ap (λ lsns. touches log lsns table key) empty) (passes_by f living log x table key p at)
 
 -- what has images and isn't an Undo is a Write
 about_write : (body : Body) (table : List ℕ) (key : List Value) → is_about body table key ≡ true → is_undo body ≡ false → is_write body ≡ true
@@ -77,20 +77,20 @@ not_undone true own t e = absurd (cc)
 not_undone false own t e = refl
 
 -- where a transaction that has undone nothing was the last to write a key, its writes leave the row there
-last_committed : (p : Rec → Bool) (txn : ℕ) (log : List Rec) (table : List ℕ) (key : List Value) → ((r : Rec) → is_write r.body ≡ true → (r.txn == txn) ≡ true → p r ≡ true) → has_undone log txn ≡ false → last_by log txn table key ≡ true → row_left (filter p log) table key ≡ row_left log table key
-last_committed p txn [] table key each honest last = absurd (cc)
-last_committed p txn (r ∷ log) table key each honest last =
+last_committed : (f : Firsts) (p : Rec → Bool) (txn : ℕ) (log : List Rec) (table : List ℕ) (key : List Value) → ((r : Rec) → is_write r.body ≡ true → (r.txn == txn) ≡ true → p r ≡ true) → has_undone log txn ≡ false → last_by log txn table key ≡ true → row_from f (filter p log) table key ≡ row_from f log table key
+last_committed f p txn [] table key each honest last = absurd (cc)
+last_committed f p txn (r ∷ log) table key each honest last =
     let first = or_false_first (is_undo r.body && (r.txn == txn)) (has_undone log txn) honest in
     let more = or_false_second (is_undo r.body && (r.txn == txn)) (has_undone log txn) honest in
     by_cases (is_about r.body table key)
     (λ about.
     let own : (r.txn == txn) ≡ true = sym (chosen (is_about r.body table key) (r.txn == txn) (last_by log txn table key) about) ∙ last in
     let passes : p r ≡ true = each r (about_write r.body table key about (not_undone (is_undo r.body) (r.txn == txn) own first)) own in
-    rw passes (row_there r (filter p log) table key about ∙ sym (row_there r log table key about)))
+    rw passes (row_there f r (filter p log) table key about ∙ sym (row_there f r log table key about)))
     (λ away.
-    filter_elsewhere p r log table key away
-    ∙ (last_committed p txn log table key each more (sym (passed (is_about r.body table key) (r.txn == txn) (last_by log txn table key) away) ∙ last)
-    ∙ sym (row_elsewhere r log table key away)))
+    filter_elsewhere f p r log table key away
+    ∙ (last_committed f p txn log table key each more (sym (passed (is_about r.body table key) (r.txn == txn) (last_by log txn table key) away) ∙ last)
+    ∙ sym (row_elsewhere f r log table key away)))
 
 -- what a record of the transaction and the log below it have to do with a key
 record Untouched (body : Body) (log : List Rec) (txn : ℕ) (table : List ℕ) (key : List Value) : Type 0 where
@@ -157,23 +157,23 @@ commit_counts txn log r written own = rw (written, eq-eqb txn r.txn (sym (eqb-tr
     counted false b = refl
 
 -- behind a Commit of a transaction that has undone nothing each key stands as it may
-pub committed_stands : (living next : List Living) (log : List Rec) (txn : ℕ) (table : List ℕ) (key : List Value) → Lives living txn → Ends living next txn → has_undone log txn ≡ false → Stands living log table key → Stands next (record { txn = txn; body = Commit } ∷ log) table key
+pub committed_stands : (f : Firsts) (living next : List Living) (log : List Rec) (txn : ℕ) (table : List ℕ) (key : List Value) → Lives living txn → Ends living next txn → has_undone log txn ≡ false → Stands f living log table key → Stands f next (record { txn = txn; body = Commit } ∷ log) table key
 unfolding is_silent
-committed_stands living next log txn table key lives ends honest at =
+committed_stands f living next log txn table key lives ends honest at =
     let x : Rec = record { txn = txn; body = Commit } in
     let away = silent_elsewhere x.body table key refl in
     by_cases (touches log (writes_left txn log) table key)
     (λ touched.
-    let h = holds_it living log txn table key lives touched at in
+    let h = holds_it f living log txn table key lives touched at in
     clear (λ other others. ap (λ lsns. touches (x ∷ log) lsns table key) (left-silent x log other refl) ∙ (touches-kept x log other table key ∙ h.alone other (ends.lived other others) (ends.gone other others)))
-    (row_elsewhere x log table key away
-    ∙ sym (filter_elsewhere (is_committed (x ∷ log)) x log table key away ∙ last_committed (is_committed (x ∷ log)) txn log table key (commit_counts txn log) honest h.last)))
+    (row_elsewhere f x log table key away
+    ∙ sym (filter_elsewhere f (is_committed (x ∷ log)) x log table key away ∙ last_committed f (is_committed (x ∷ log)) txn log table key (commit_counts txn log) honest h.last)))
     (λ none.
-    let same = filter_elsewhere (is_committed (x ∷ log)) x log table key away
-    ∙ row_left-agreed (is_committed (x ∷ log)) (is_committed log) log table key
+    let same = filter_elsewhere f (is_committed (x ∷ log)) x log table key away
+    ∙ row_left-agreed f (is_committed (x ∷ log)) (is_committed log) log table key
     (all_each (λ (r : Rec). is_about r.body table key ≡ true → (txn == r.txn) ≡ false) (λ (r : Rec). is_about r.body table key ≡ true → is_committed (x ∷ log) r ≡ is_committed log r) (commit_agrees txn log table key) log (unwritten txn log table key honest none)) in
-    let p = silent_passes log x table key refl same in
-    ended_stands living next (x ∷ log) txn table key ends (p.touch txn ∙ none) (passes_by living log x table key p at))
+    let p = silent_passes f log x table key refl same in
+    ended_stands f living next (x ∷ log) txn table key ends (p.touch txn ∙ none) (passes_by f living log x table key p at))
 
 -- a log knows nothing of a transaction
 pub record IsUnknown (log : List Rec) (txn : ℕ) : Type 0 where
@@ -191,10 +191,10 @@ begun_untouched log other table key L each (inl lives) = each lives
 begun_untouched log other table key L each (inr unknown) = ap (λ lsns. touches log lsns table key) unknown.none_left
 
 -- when a transaction begins each key stands as before
-pub begun_stands : (living next : List Living) (log : List Rec) (table : List ℕ) (key : List Value) → Begins living next log → Stands living log table key → Stands next log table key
-begun_stands living next log table key b (clear each same) =
+pub begun_stands : (f : Firsts) (living next : List Living) (log : List Rec) (table : List ℕ) (key : List Value) → Begins living next log → Stands f living log table key → Stands f next log table key
+begun_stands f living next log table key b (clear each same) =
     clear (λ other lives. begun_untouched log other table key (Lives living other) (each other) (b.either other lives)) same
-begun_stands living next log table key b (held h) = held (record {
+begun_stands f living next log table key b (held h) = held (record {
   txn = h.txn;
   lives = b.lives_on h.txn h.lives;
   last = h.last;
@@ -211,12 +211,12 @@ loaded_counts : (log : List Rec) (r : Rec) → IsLoaded r → is_committed log r
 loaded_counts log r l = rw (l.write, eq-eqb r.txn 0 l.nobody) refl
 
 -- loaded rows are committed
-pub loaded_stands : (loads : List Rec) (table : List ℕ) (key : List Value) → AllByRecursion IsLoaded loads → Stands [] loads table key
-loaded_stands loads table key all =
+pub loaded_stands : (f : Firsts) (loads : List Rec) (table : List ℕ) (key : List Value) → AllByRecursion IsLoaded loads → Stands f [] loads table key
+loaded_stands f loads table key all =
     clear (λ txn lives. absurd (nobody_lives txn lives))
-    (ap (λ rs. row_left rs table key) (sym (filter_all (is_committed loads) loads (all_each IsLoaded (λ r. is_committed loads r ≡ true) (loaded_counts loads) loads all))))
+    (ap (λ rs. row_from f rs table key) (sym (filter_all (is_committed loads) loads (all_each IsLoaded (λ r. is_committed loads r ≡ true) (loaded_counts loads) loads all))))
 
 -- where no transaction lives each key holds its committed row
-pub stands_at_rest : (log : List Rec) (table : List ℕ) (key : List Value) → Stands [] log table key → row_left (committed log) table key ≡ row_left log table key
-stands_at_rest log table key (clear each same) = sym same
-stands_at_rest log table key (held h) = absurd (nobody_lives h.txn h.lives)
+pub stands_at_rest : (f : Firsts) (log : List Rec) (table : List ℕ) (key : List Value) → Stands f [] log table key → row_from f (committed log) table key ≡ row_from f log table key
+stands_at_rest f log table key (clear each same) = sym same
+stands_at_rest f log table key (held h) = absurd (nobody_lives h.txn h.lives)

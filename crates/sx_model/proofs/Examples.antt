@@ -120,6 +120,7 @@ plan = record {
   loads = loads;
   lines = line 3 1 request.Begin ∷ line 4 2 request.Begin ∷ line 5 1 (request.Update t (row a c)) ∷ line 6 2 (request.Update t (row a d)) ∷ line 7 2 (request.Read t (a ∷ [])) ∷ line 8 2 request.Commit
       ∷ line 9 2 request.Begin ∷ line 10 1 request.Commit ∷ line 11 2 (request.Update t (row a b)) ∷ line 12 2 request.Commit ∷ [];
+  paces = [];
   change = None;
   strategy = Blocking;
   retries = 8;

@@ -38,7 +38,7 @@ apart : (n t : ℕ) → n ≡ t → nat_eq n t ≡ false → ⊥
 apart n t same differs = grind (arith, nat_tests)
 
 -- a transaction is one client's
-one_client : (xs : List Living) (a b txn : ℕ) → IsDistinct nat_eq (map (λ (l : Living). l.txn) xs) → txn_among xs a ≡ Some txn → txn_among xs b ≡ Some txn → a ≡ b
+pub one_client : (xs : List Living) (a b txn : ℕ) → IsDistinct nat_eq (map (λ (l : Living). l.txn) xs) → txn_among xs a ≡ Some txn → txn_among xs b ≡ Some txn → a ≡ b
 unfolding IsDistinct
 one_client [] a b txn d p q = absurd (cc)
 one_client (x ∷ xs) a b txn d p q = by_cases (x.client == a)
@@ -50,7 +50,7 @@ one_client (x ∷ xs) a b txn d p q = by_cases (x.client == a)
     (λ far. one_client xs a b txn d.1 (sym (among_rest x xs a away) ∙ p) (sym (among_rest x xs b far) ∙ q)))
 
 -- a client that has ended is in no transaction
-without_own : (client : ℕ) (xs : List Living) → txn_among (without client xs) client ≡ None
+pub without_own : (client : ℕ) (xs : List Living) → txn_among (without client xs) client ≡ None
 without_own client [] = refl
 without_own client (x ∷ xs) = by_cases (x.client == client) (λ here. rw here (without_own client xs)) (λ away. rw away (rw away (without_own client xs)))
 

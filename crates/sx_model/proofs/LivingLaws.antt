@@ -7,7 +7,7 @@ use Rattle.std.proofs.lemmas.List.{length-map}
 use Rattle.std.proofs.lemmas.Map.Keys.{IsDistinct-cons}
 use Rattle.std.proofs.lemmas.Map.Steps.{length-le_from_distinct_below}
 use Rattle.sx_journal.specs.declared.entry.Entry.{Entry}
-use Rattle.sx_model.specs.Effects.{Effect, Nothing, Reads, Begins, Writes, Undoes, Commits, Aborts, Starts, Sees, Conflicts, Switches, effect}
+use Rattle.sx_model.specs.Effects.{Effect, Nothing, Reads, Begins, Writes, Undoes, Commits, Aborts, Starts, Sees, Fetches, Conflicts, Switches, effect}
 use Rattle.sx_model.specs.Openings.{Opening}
 use Rattle.sx_model.specs.Leaves.{Living, living, living_after, without, txn_among, begun, begun_after}
 use Rattle.sx_model.specs.Clients.{IsClient, IsLiving, AreLiving}
@@ -15,7 +15,7 @@ use Rattle.sx_model.specs.Logs.{next_lsn}
 use Rattle.sx_model.specs.Legal.{Legal}
 use Rattle.sx_model.proofs.AllLaws.{all_filter, all_map_filter, all_each, all_images}
 use Rattle.sx_model.proofs.TestLaws.{by_cases}
-use Rattle.sx_model.proofs.Outcomes.{Outcome, rests, begins, reads, writes, commits, undoes, aborts, starts, sees, conflicts, switches, outcome}
+use Rattle.sx_model.proofs.Outcomes.{Outcome, rests, begins, reads, writes, commits, undoes, aborts, starts, sees, fetches, conflicts, switches, outcome}
 
 -- images that differ still do where items are left out
 pub distinct_filter : {T S : Type 0} (e : S → S → Bool) (f : T → S) (p : T → Bool) (xs : List T) → IsDistinct e (map f xs) → IsDistinct e (map f (filter p xs))
@@ -70,8 +70,9 @@ living_next o past e a (undoes u) = living_told past e Undoes u.told a
 living_next o past e a (aborts b) = living_told past e Aborts b.told (ended_living (living past) e.actor (begun past) a)
 living_next o past e a (starts s) = living_told past e (Starts (next_lsn o past)) s.told a
 living_next o past e a (sees s) = living_told past e (Sees s.lsns s.last) s.told a
+living_next o past e a (fetches f) = living_told past e (Fetches f.place) f.told a
 living_next o past e a (conflicts t told) = living_told past e Conflicts told a
-living_next o past e a (switches t told) = living_told past e Switches told a
+living_next o past e a (switches w) = living_told past e Switches w.told a
 
 -- in a legal journal the live transactions have clients and numbers that differ
 pub legal_living : (o : Opening) (past : List Entry) → Legal o past → AreLiving (begun past) (living past)

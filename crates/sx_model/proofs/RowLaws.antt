@@ -4,8 +4,9 @@ use Rattle.std.specs.Prelude.{filter}
 use Rattle.std.specs.List.{AllByRecursion}
 use Rattle.sx_values.specs.declared.value.Value.{Value}
 use Rattle.sx_log.specs.declared.record.Rec.{Rec}
-use Rattle.sx_log.specs.State.{Stored, stored, state_at, row_left}
+use Rattle.sx_log.specs.State.{Stored, stored}
 use Rattle.sx_log.specs.Committed.{is_write, is_commit, commits, is_committed, committed}
+use Rattle.sx_model.specs.NewRows.{Firsts, state_from, row_from}
 use Rattle.sx_model.specs.Scans.{is_about}
 use Rattle.sx_model.proofs.StateLaws.{image_of, after_elsewhere, after_there}
 use Rattle.sx_model.proofs.TestLaws.{by_cases}
@@ -16,29 +17,29 @@ stored-row lsn None = refl
 stored-row lsn (Some row) = refl
 
 -- a record about a key leaves its image after there
-pub row_there : (r : Rec) (log : List Rec) (table : List ℕ) (key : List Value) → is_about r.body table key ≡ true → row_left (r ∷ log) table key ≡ image_of r.body
-row_there r log table key about = ap (option_map (λ (s : Stored). s.0)) (after_there (length log + 1) r.body table key (state_at log table key) about) ∙ stored-row (length log + 1) (image_of r.body)
+pub row_there : (f : Firsts) (r : Rec) (log : List Rec) (table : List ℕ) (key : List Value) → is_about r.body table key ≡ true → row_from f (r ∷ log) table key ≡ image_of r.body
+row_there f r log table key about = ap (option_map (λ (s : Stored). s.0)) (after_there (length log + 1) r.body table key (state_from (f table key) log table key) about) ∙ stored-row (length log + 1) (image_of r.body)
 
 -- and other keys as they were
-pub row_elsewhere : (r : Rec) (log : List Rec) (table : List ℕ) (key : List Value) → is_about r.body table key ≡ false → row_left (r ∷ log) table key ≡ row_left log table key
-row_elsewhere r log table key about = ap (option_map (λ (s : Stored). s.0)) (after_elsewhere (length log + 1) r.body table key (state_at log table key) about)
+pub row_elsewhere : (f : Firsts) (r : Rec) (log : List Rec) (table : List ℕ) (key : List Value) → is_about r.body table key ≡ false → row_from f (r ∷ log) table key ≡ row_from f log table key
+row_elsewhere f r log table key about = ap (option_map (λ (s : Stored). s.0)) (after_elsewhere (length log + 1) r.body table key (state_from (f table key) log table key) about)
 
 -- the row that a record leaves hangs on no LSN
-row_on_top : (r : Rec) (log other : List Rec) (table : List ℕ) (key : List Value) → row_left log table key ≡ row_left other table key → row_left (r ∷ log) table key ≡ row_left (r ∷ other) table key
-row_on_top r log other table key same =
-    by_cases (is_about r.body table key) (λ a. row_there r log table key a ∙ sym (row_there r other table key a)) (λ a. row_elsewhere r log table key a ∙ (same ∙ sym (row_elsewhere r other table key a)))
+row_on_top : (f : Firsts) (r : Rec) (log other : List Rec) (table : List ℕ) (key : List Value) → row_from f log table key ≡ row_from f other table key → row_from f (r ∷ log) table key ≡ row_from f (r ∷ other) table key
+row_on_top f r log other table key same =
+    by_cases (is_about r.body table key) (λ a. row_there f r log table key a ∙ sym (row_there f r other table key a)) (λ a. row_elsewhere f r log table key a ∙ (same ∙ sym (row_elsewhere f r other table key a)))
 
 -- a record that isn't about a key may be left out there
-pub filter_elsewhere : (p : Rec → Bool) (r : Rec) (log : List Rec) (table : List ℕ) (key : List Value) → is_about r.body table key ≡ false → row_left (filter p (r ∷ log)) table key ≡ row_left (filter p log) table key
-filter_elsewhere p r log table key about = by_cases (p r) (λ t. rw t (row_elsewhere r (filter p log) table key about)) (λ f. rw f refl)
+pub filter_elsewhere : (f : Firsts) (p : Rec → Bool) (r : Rec) (log : List Rec) (table : List ℕ) (key : List Value) → is_about r.body table key ≡ false → row_from f (filter p (r ∷ log)) table key ≡ row_from f (filter p log) table key
+filter_elsewhere f p r log table key about = by_cases (p r) (λ t. rw t (row_elsewhere f r (filter p log) table key about)) (λ f. rw f refl)
 
 -- two tests that agree on the records about a key leave one row there
-pub row_left-agreed : (p q : Rec → Bool) (log : List Rec) (table : List ℕ) (key : List Value) → AllByRecursion (λ (r : Rec). is_about r.body table key ≡ true → p r ≡ q r) log → row_left (filter p log) table key ≡ row_left (filter q log) table key
-row_left-agreed p q [] table key all = refl
-row_left-agreed p q (r ∷ log) table key all =
-    let rest = row_left-agreed p q log table key all.1 in
-    by_cases (is_about r.body table key) (λ a. by_cases (p r) (λ t. rw (t, sym (all.0 a) ∙ t) (row_on_top r (filter p log) (filter q log) table key rest)) (λ f. rw (f, sym (all.0 a) ∙ f) rest)) (λ a.
-    filter_elsewhere p r log table key a ∙ (rest ∙ sym (filter_elsewhere q r log table key a)))
+pub row_left-agreed : (f : Firsts) (p q : Rec → Bool) (log : List Rec) (table : List ℕ) (key : List Value) → AllByRecursion (λ (r : Rec). is_about r.body table key ≡ true → p r ≡ q r) log → row_from f (filter p log) table key ≡ row_from f (filter q log) table key
+row_left-agreed f p q [] table key all = refl
+row_left-agreed f p q (r ∷ log) table key all =
+    let rest = row_left-agreed f p q log table key all.1 in
+    by_cases (is_about r.body table key) (λ a. by_cases (p r) (λ t. rw (t, sym (all.0 a) ∙ t) (row_on_top f r (filter p log) (filter q log) table key rest)) (λ f. rw (f, sym (all.0 a) ∙ f) rest)) (λ a.
+    filter_elsewhere f p r log table key a ∙ (rest ∙ sym (filter_elsewhere f q r log table key a)))
 
 -- whose the newest record about a key is: whether it is this transaction's
 abbrev pub last_by : List Rec → ℕ → List ℕ → List Value → Bool

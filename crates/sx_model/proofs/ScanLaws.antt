@@ -12,17 +12,17 @@ use Rattle.sx_model.proofs.TestLaws.{by_cases, chosen, passed, and_false_first, 
 use Rattle.sx_model.proofs.LsnLaws.{record_of, about_one, numbered_within, numbered-here, numbered-earlier}
 
 -- no listed LSN is that of a record about a key
-record IsUnread (log : List Rec) (lsns table : List ℕ) (key : List Value) : Type 0 where
-  none : (n : ℕ) (r : Rec) → numbered log n ≡ Some r → is_about r.body table key ≡ true → has_lsn lsns n ≡ true → ⊥
+pub record IsUnread (log : List Rec) (lsns table : List ℕ) (key : List Value) : Type 0 where
+  pub none : (n : ℕ) (r : Rec) → numbered log n ≡ Some r → is_about r.body table key ≡ true → has_lsn lsns n ≡ true → ⊥
 
-unread_earlier : (r : Rec) (past : List Rec) (lsns table : List ℕ) (key : List Value) → IsUnread (r ∷ past) lsns table key → IsUnread past lsns table key
+pub unread_earlier : (r : Rec) (past : List Rec) (lsns table : List ℕ) (key : List Value) → IsUnread (r ∷ past) lsns table key → IsUnread past lsns table key
 unread_earlier r past lsns table key u = record { none = λ n x e. u.none n x (numbered-earlier r past n (numbered_within past n x e) ∙ e) }
 
 reading_skips : (r : Rec) (past : List Rec) (lsns table : List ℕ) (key : List Value) → (has_lsn lsns (length past + 1) && is_about r.body table key) ≡ false → reading (r ∷ past) lsns table key ≡ reading past lsns table key
 reading_skips r past lsns table key e = passed (has_lsn lsns (length past + 1) && is_about r.body table key) (after_body (length past + 1) r.body table key None) (reading past lsns table key) e
 
 -- of a key without a listed record nothing was read
-reading_none : (log : List Rec) (lsns table : List ℕ) (key : List Value) → IsUnread log lsns table key → reading log lsns table key ≡ None
+pub reading_none : (log : List Rec) (lsns table : List ℕ) (key : List Value) → IsUnread log lsns table key → reading log lsns table key ≡ None
 reading_none [] lsns table key u = refl
 reading_none (r ∷ past) lsns table key u =
     let skipped : (has_lsn lsns (length past + 1) && is_about r.body table key) ≡ false =
@@ -30,14 +30,14 @@ reading_none (r ∷ past) lsns table key u =
     reading_skips r past lsns table key skipped ∙ reading_none past lsns table key (unread_earlier r past lsns table key u)
 
 -- the row that a key has
-record HasRow (log : List Rec) (table : List ℕ) (key : List Value) (lsn : ℕ) : Type 0 where
-  row : List Value
-  has : state_at log table key ≡ Some (row, lsn)
+pub record HasRow (log : List Rec) (table : List ℕ) (key : List Value) (lsn : ℕ) : Type 0 where
+  pub row : List Value
+  pub has : state_at log table key ≡ Some (row, lsn)
 
 -- what the listed LSNs say of a key: that of its row is listed, and no other one of its records
-record IsListed (log : List Rec) (lsns table : List ℕ) (key : List Value) : Type 0 where
-  saw : (row : List Value) (lsn : ℕ) → state_at log table key ≡ Some (row, lsn) → has_lsn lsns lsn ≡ true
-  only : (n : ℕ) (r : Rec) → numbered log n ≡ Some r → is_about r.body table key ≡ true → has_lsn lsns n ≡ true → HasRow log table key n
+pub record IsListed (log : List Rec) (lsns table : List ℕ) (key : List Value) : Type 0 where
+  pub saw : (row : List Value) (lsn : ℕ) → state_at log table key ≡ Some (row, lsn) → has_lsn lsns lsn ≡ true
+  pub only : (n : ℕ) (r : Rec) → numbered log n ≡ Some r → is_about r.body table key ≡ true → has_lsn lsns n ≡ true → HasRow log table key n
 
 -- where the newest record left a key's row, its LSN is listed and it is read
 read_here : (r : Rec) (past : List Rec) (lsns table : List ℕ) (key : List Value) → IsListed (r ∷ past) lsns table key → is_about r.body table key ≡ true → reading (r ∷ past) lsns table key ≡ state_at (r ∷ past) table key
@@ -69,7 +69,7 @@ listed_earlier r past lsns table key about l =
     }
 
 -- what the listed LSNs say of a key is what it has
-read_listed : (log : List Rec) (lsns table : List ℕ) (key : List Value) → IsListed log lsns table key → reading log lsns table key ≡ state_at log table key
+pub read_listed : (log : List Rec) (lsns table : List ℕ) (key : List Value) → IsListed log lsns table key → reading log lsns table key ≡ state_at log table key
 read_listed [] lsns table key l = refl
 read_listed (r ∷ past) lsns table key l =
     by_cases (is_about r.body table key) (read_here r past lsns table key l) (λ a.
@@ -77,13 +77,13 @@ read_listed (r ∷ past) lsns table key l =
     ∙ (read_listed past lsns table key (listed_earlier r past lsns table key a l) ∙ sym (after_elsewhere (length past + 1) r.body table key (state_at past table key) a)))
 
 -- a listed LSN is that of a row that the table has
-listed_row : (log : List Rec) (table lsns : List ℕ) (n : ℕ) → AllByRecursion (IsRowNow log table) lsns → has_lsn lsns n ≡ true → IsRowNow log table n
+pub listed_row : (log : List Rec) (table lsns : List ℕ) (n : ℕ) → AllByRecursion (IsRowNow log table) lsns → has_lsn lsns n ≡ true → IsRowNow log table n
 listed_row log table [] n all e = absurd (cc)
 listed_row log table (lsn ∷ lsns) n all e =
     by_cases (nat_eq n lsn) (λ same. subst (IsRowNow log table) (sym (eqb-true n lsn same)) all.0) (λ other. listed_row log table lsns n all.1 (or_rest (nat_eq n lsn) (has_lsn lsns n) other e))
 
 -- a record about a key whose LSN is that of a row that the table has left the key's row
-row_of_record : (log : List Rec) (table : List ℕ) (key : List Value) (n : ℕ) (r : Rec) → IsRowNow log table n → numbered log n ≡ Some r → is_about r.body table key ≡ true → HasRow log table key n
+pub row_of_record : (log : List Rec) (table : List ℕ) (key : List Value) (n : ℕ) (r : Rec) → IsRowNow log table n → numbered log n ≡ Some r → is_about r.body table key ≡ true → HasRow log table key n
 row_of_record log table key n r now m about =
     let f = record_of log table now.key now.row n now.now in
     let p = f.has_number in

@@ -1,5 +1,5 @@
 -- Journals of one thread keep the script, and are complete once its lines are worked through, nobody lives and the switch is done.
-use Rattle.std.proofs.Common.{◌≡◌, ◌≢◌, ◌≤◌, ◌<◌, ◌-◌, ◌==◌, ◌⊎◌, ℕ, suc, Bool, true, false, List, [], ◌∷◌, length, map, min, get_or, ◌+◌, Option, Some, None, option_map, refl, ap, ◌∙◌, subst, inl, inr, ⊎_elim, arith, eqb-true, if◌then◌else◌}
+use Rattle.std.proofs.Common.{◌≡◌, ◌≤◌, ◌<◌, ◌-◌, ◌==◌, ◌⊎◌, ℕ, suc, Bool, true, false, List, [], ◌∷◌, length, map, min, get_or, ◌+◌, Option, Some, None, option_map, refl, ap, ◌∙◌, subst, inl, inr, ⊎_elim, arith, eqb-true, if◌then◌else◌}
 use Rattle.std.specs.Prelude.{⊤, filter, slice_get, drop, nat_lt, MatchOption}
 use Rattle.std.specs.List.{AllByRecursion}
 use Rattle.std.proofs.lemmas.Option.{slice_get_cases, slice_get_past, slice_get_within}
@@ -12,7 +12,9 @@ use Rattle.sx_sync.specs.declared.Phase.{Phase}
 use Rattle.sx_sync.specs.declared.Phase.TheVariants.{Idle, Scanning, Chasing, Draining, Late, Done}
 use Rattle.sx_journal.specs.declared.entry.Entry.{Entry}
 use Rattle.sx_journal.specs.declared.entry.Event.{Event}
-use Rattle.sx_journal.specs.declared.entry.Event.TheVariants.{Client, Start, Scan, Switch}
+use Rattle.sx_journal.specs.declared.entry.Event.TheVariants.{Client, Start, Scan, Fetch, Switch}
+use Rattle.sx_journal.specs.declared.entry.PropLine.{PropLine}
+use Rattle.sx_journal.specs.declared.entry.PropLine.TheVariants as prop
 use Rattle.sx_journal.specs.declared.entry.Reply.{Reply}
 use Rattle.sx_journal.specs.declared.entry.Request.{Request}
 use Rattle.sx_journal.specs.declared.entry.Request.TheVariants.{Undo}
@@ -26,7 +28,7 @@ use Rattle.sx_model.specs.Openings.{Opening}
 use Rattle.sx_model.specs.Leaves.{Living, living, txn_among, txn_of, begun, phase}
 use Rattle.sx_model.specs.Clients.{IsClient, IsLiving}
 use Rattle.sx_sync.specs.Ready.{lesser, least}
-use Rattle.sx_model.specs.Schedules.{Line, Plan, own, commands_of, standing_of, next_of_lines, or_undo, next_request, KeepsEvent, KeepsScript, IsSwitched, IsComplete, propagator_event, Turn, client_turn, propagator_turn, one_less, first_open, open_line, least_living, turn_at, next_turn, Stepped}
+use Rattle.sx_model.specs.Schedules.{Line, Plan, own, commands_of, standing_of, next_of_lines, or_undo, next_request, KeepsEvent, KeepsScript, IsSwitched, IsComplete, propagator_event, Turn, client_turn, propagator_turn, one_less, first_open, open_line, least_living, turn_at, next_turn, Stepped, Pace, pace_event, pace_turn, line_turn, is_behind, paces_left, makes_event, from_event, behind_first, holds_image}
 use Rattle.sx_model.specs.Legal.{Legal}
 use Rattle.sx_model.proofs.AllLaws.{all_each, all_images}
 use Rattle.sx_model.proofs.TestLaws.{by_cases}
@@ -213,42 +215,71 @@ nobody_among (x ∷ xs) none client = absurd (cc)
 undoes_next : (plan : Plan) (past : List Entry) (client : ℕ) → open_line plan past ≡ None → IsIn (living past) client → next_request plan client past ≡ Some Undo
 undoes_next plan past client none i = ap (λ next. or_undo next (txn_of past client)) (lines_over plan past none client) ∙ ap (or_undo None) i.is
 
--- how a turn came: by an open line, since a client has yet to undo, or at the end by the propagator
+-- how a turn came: by an open line of a client or of the propagator, since a client has yet to undo, or at the end by the propagator
 data Came (plan : Plan) (past : List Entry) (t : Turn) : Type 0 where
   by_line : (l : Line) (asked : Request) → open_line plan past ≡ Some l → next_of_lines plan l.client past ≡ Some asked → client_turn l.client asked ≡ t → Came plan past t
   by_undo : (client : ℕ) → open_line plan past ≡ None → least_living past ≡ Some client → client_turn client Undo ≡ t → Came plan past t
-  by_propagator : (asked : Event) → propagator_event plan.change plan.strategy (phase past) ≡ Some asked → propagator_turn asked ≡ t → Came plan past t
+  by_pace : (p : Pace) (asked : Event) → pace_event plan.change plan.strategy p.what ≡ Some asked → propagator_turn asked ≡ t → Came plan past t
+  by_propagator : (asked : Event) → propagator_event plan.change plan.strategy (phase past) (is_behind plan past) ≡ Some asked → propagator_turn asked ≡ t → Came plan past t
 
 came_by_line : (plan : Plan) (past : List Entry) (t : Turn) (l : Line) (next : Option Request) → open_line plan past ≡ Some l → next_of_lines plan l.client past ≡ next → option_map (client_turn l.client) next ≡ Some t → Came plan past t
 came_by_line plan past t l None is next made = absurd (cc)
 came_by_line plan past t l (Some asked) is next made = by_line l asked is next (cc)
 
-came_at_end : (plan : Plan) (past : List Entry) (t : Turn) (next : Option Event) → propagator_event plan.change plan.strategy (phase past) ≡ next → option_map propagator_turn next ≡ Some t → Came plan past t
+came_at_end : (plan : Plan) (past : List Entry) (t : Turn) (next : Option Event) → propagator_event plan.change plan.strategy (phase past) (is_behind plan past) ≡ next → option_map propagator_turn next ≡ Some t → Came plan past t
 came_at_end plan past t None next made = absurd (cc)
 came_at_end plan past t (Some asked) next made = by_propagator asked next (cc)
 
-came_at : (plan : Plan) (past : List Entry) (t : Turn) (line : Option Line) (client : Option ℕ) → open_line plan past ≡ line → least_living past ≡ client → turn_at plan past line client ≡ Some t → Came plan past t
-came_at plan past t (Some l) client is lives made = came_by_line plan past t l (next_of_lines plan l.client past) is refl made
-came_at plan past t None (Some client) is lives made = by_undo client is lives (cc)
-came_at plan past t None None is lives made = came_at_end plan past t (propagator_event plan.change plan.strategy (phase past)) refl made
+came_by_pace : (plan : Plan) (past : List Entry) (t : Turn) (p : Pace) (next : Option Event) → pace_event plan.change plan.strategy p.what ≡ next → option_map propagator_turn next ≡ Some t → Came plan past t
+came_by_pace plan past t p None next made = absurd (cc)
+came_by_pace plan past t p (Some asked) next made = by_pace p asked next (cc)
+
+came_first : (plan : Plan) (past : List Entry) (t : Turn) (l : Line) (p : Pace) (b : Bool) → open_line plan past ≡ Some l → (if b then pace_turn plan p else line_turn plan past l) ≡ Some t → Came plan past t
+came_first plan past t l p true is made = came_by_pace plan past t p (pace_event plan.change plan.strategy p.what) refl made
+came_first plan past t l p false is made = came_by_line plan past t l (next_of_lines plan l.client past) is refl made
+
+came_at : (plan : Plan) (past : List Entry) (t : Turn) (line : Option Line) (paces : List Pace) (client : Option ℕ) → open_line plan past ≡ line → least_living past ≡ client → turn_at plan past line paces client ≡ Some t → Came plan past t
+came_at plan past t (Some l) [] client is lives made = came_by_line plan past t l (next_of_lines plan l.client past) is refl made
+came_at plan past t (Some l) (p ∷ paces) client is lives made = came_first plan past t l p (nat_lt p.line l.command.line) is made
+came_at plan past t None (p ∷ paces) client is lives made = came_by_pace plan past t p (pace_event plan.change plan.strategy p.what) refl made
+came_at plan past t None [] (Some client) is lives made = by_undo client is lives (cc)
+came_at plan past t None [] None is lives made = came_at_end plan past t (propagator_event plan.change plan.strategy (phase past) (is_behind plan past)) refl made
 
 came : (plan : Plan) (past : List Entry) (t : Turn) → next_turn plan past ≡ Some t → Came plan past t
-came plan past t made = came_at plan past t (open_line plan past) (least_living past) refl refl made
+came plan past t made = came_at plan past t (open_line plan past) (paces_left plan past) (least_living past) refl refl made
 
 -- each turn is one that the script asks for
 client_kept : (plan : Plan) (past : List Entry) (client : ℕ) (asked : Request) → next_request plan client past ≡ Some asked → KeepsEvent plan past client (Client asked)
 unfolding KeepsEvent
 client_kept plan past client asked next = next
 
-event_kept : (plan : Plan) (past : List Entry) (change : Option Spec) (at : Phase) (asked : Event) → plan.change ≡ change → propagator_event change plan.strategy at ≡ Some asked → KeepsEvent plan past 0 asked
+read_on : (plan : Plan) (past : List Entry) (behind : Bool) (asked : Event) → Some (if behind then Fetch 256 else Switch) ≡ Some asked → KeepsEvent plan past 0 asked
 unfolding KeepsEvent
-event_kept plan past None at asked is next = absurd (cc)
-event_kept plan past (Some spec) Idle asked is next = (let same : Start spec plan.strategy ≡ asked = cc in subst (KeepsEvent plan past 0) same (is, refl))
-event_kept plan past (Some spec) Scanning asked is next = (let same : Scan 64 ≡ asked = cc in subst (KeepsEvent plan past 0) same tt)
-event_kept plan past (Some spec) Chasing asked is next = (let same : Switch ≡ asked = cc in subst (KeepsEvent plan past 0) same tt)
-event_kept plan past (Some spec) Draining asked is next = absurd (cc)
-event_kept plan past (Some spec) Late asked is next = absurd (cc)
-event_kept plan past (Some spec) Done asked is next = absurd (cc)
+read_on plan past true asked next = (let same : Fetch 256 ≡ asked = cc in subst (KeepsEvent plan past 0) same tt)
+read_on plan past false asked next = (let same : Switch ≡ asked = cc in subst (KeepsEvent plan past 0) same tt)
+
+event_kept : (plan : Plan) (past : List Entry) (change : Option Spec) (at : Phase) (behind : Bool) (asked : Event) → plan.change ≡ change → propagator_event change plan.strategy at behind ≡ Some asked → KeepsEvent plan past 0 asked
+unfolding KeepsEvent
+event_kept plan past None at behind asked is next = absurd (cc)
+event_kept plan past (Some spec) Idle behind asked is next = (let same : Start spec plan.strategy ≡ asked = cc in subst (KeepsEvent plan past 0) same (is, refl))
+event_kept plan past (Some spec) Scanning behind asked is next = (let same : Scan 64 ≡ asked = cc in subst (KeepsEvent plan past 0) same tt)
+event_kept plan past (Some spec) Chasing behind asked is next = read_on plan past behind asked next
+event_kept plan past (Some spec) Draining behind asked is next = read_on plan past behind asked next
+event_kept plan past (Some spec) Late behind asked is next = absurd (cc)
+event_kept plan past (Some spec) Done behind asked is next = absurd (cc)
+
+start_kept : (plan : Plan) (past : List Entry) (change : Option Spec) (asked : Event) → plan.change ≡ change → option_map (λ spec. Start spec plan.strategy) change ≡ Some asked → KeepsEvent plan past 0 asked
+unfolding KeepsEvent
+start_kept plan past None asked is next = absurd (cc)
+start_kept plan past (Some spec) asked is next = (let same : Start spec plan.strategy ≡ asked = cc in subst (KeepsEvent plan past 0) same (is, refl))
+
+pace_kept : (plan : Plan) (past : List Entry) (what : PropLine) (asked : Event) → pace_event plan.change plan.strategy what ≡ Some asked → KeepsEvent plan past 0 asked
+unfolding KeepsEvent
+pace_kept plan past prop.Start asked next = start_kept plan past plan.change asked refl next
+pace_kept plan past prop.Check asked next = absurd (cc)
+pace_kept plan past prop.Switch asked next = (let same : Switch ≡ asked = cc in subst (KeepsEvent plan past 0) same tt)
+pace_kept plan past (prop.Scan n) asked next = (let same : Scan n ≡ asked = cc in subst (KeepsEvent plan past 0) same tt)
+pace_kept plan past (prop.Fetch n) asked next = (let same : Fetch n ≡ asked = cc in subst (KeepsEvent plan past 0) same tt)
 
 -- an event is one that the script asks of the turn's actor
 abbrev KeepsTurn : Plan → List Entry → Turn → Type 0
@@ -257,7 +288,8 @@ KeepsTurn plan past t = KeepsEvent plan past t.actor t.event
 came_kept : (plan : Plan) (past : List Entry) (t : Turn) → Came plan past t → KeepsTurn plan past t
 came_kept plan past t (by_line l asked is next made) = subst (KeepsTurn plan past) made (client_kept plan past l.client asked (ap (λ found. or_undo found (txn_of past l.client)) next))
 came_kept plan past t (by_undo client over least_one made) = subst (KeepsTurn plan past) made (client_kept plan past client Undo (undoes_next plan past client over (least_lives past client least_one)))
-came_kept plan past t (by_propagator asked next made) = subst (KeepsTurn plan past) made (event_kept plan past plan.change (phase past) asked refl next)
+came_kept plan past t (by_pace p asked next made) = subst (KeepsTurn plan past) made (pace_kept plan past p.what asked next)
+came_kept plan past t (by_propagator asked next made) = subst (KeepsTurn plan past) made (event_kept plan past plan.change (phase past) (is_behind plan past) asked refl next)
 
 pub turn_kept : (plan : Plan) (past : List Entry) (t : Turn) → next_turn plan past ≡ Some t → KeepsEvent plan past t.actor t.event
 turn_kept plan past t made = came_kept plan past t (came plan past t made)
@@ -273,14 +305,24 @@ stepped_keeps plan [] stepped = tt
 stepped_keeps plan (e ∷ past) stepped = (stepped_keeps plan past stepped.0, turn_kept plan past (record { actor = e.actor; event = e.event }) stepped.1)
 
 -- the propagator is no client
-no_client : (change : Option Spec) (strategy : Strategy) (at : Phase) (asked : Request) → propagator_event change strategy at ≡ Some (Client asked) → ⊥
-no_client None strategy at asked next = cc
-no_client (Some spec) strategy Idle asked next = cc
-no_client (Some spec) strategy Scanning asked next = cc
-no_client (Some spec) strategy Chasing asked next = cc
-no_client (Some spec) strategy Draining asked next = cc
-no_client (Some spec) strategy Late asked next = cc
-no_client (Some spec) strategy Done asked next = cc
+no_client : (change : Option Spec) (strategy : Strategy) (at : Phase) (behind : Bool) (asked : Request) → propagator_event change strategy at behind ≡ Some (Client asked) → ⊥
+no_client None strategy at behind asked next = cc
+no_client (Some spec) strategy Idle behind asked next = cc
+no_client (Some spec) strategy Scanning behind asked next = cc
+no_client (Some spec) strategy Chasing true asked next = cc
+no_client (Some spec) strategy Chasing false asked next = cc
+no_client (Some spec) strategy Draining true asked next = cc
+no_client (Some spec) strategy Draining false asked next = cc
+no_client (Some spec) strategy Late behind asked next = cc
+no_client (Some spec) strategy Done behind asked next = cc
+
+no_pace : (change : Option Spec) (strategy : Strategy) (what : PropLine) (asked : Request) → pace_event change strategy what ≡ Some (Client asked) → ⊥
+no_pace None strategy prop.Start asked next = cc
+no_pace (Some spec) strategy prop.Start asked next = cc
+no_pace change strategy prop.Check asked next = cc
+no_pace change strategy prop.Switch asked next = cc
+no_pace change strategy (prop.Scan n) asked next = cc
+no_pace change strategy (prop.Fetch n) asked next = cc
 
 came_client : (plan : Plan) (past : List Entry) (actor : ℕ) (asked : Request) → AllByRecursion (λ (l : Line). IsClient l.client) plan.lines → AllByRecursion IsClient (map (λ (l : Living). l.client) (living past)) → Came plan past (client_turn actor asked) → IsClient actor
 came_client plan past actor asked lines living_ones (by_line l request is next made) =
@@ -288,7 +330,9 @@ came_client plan past actor asked lines living_ones (by_line l request is next m
 came_client plan past actor asked lines living_ones (by_undo client over least_one made) =
     subst IsClient (ap (λ (t : Turn). t.actor) made) (least_among IsClient (map (λ (l : Living). l.client) (living past)) client living_ones least_one)
 came_client plan past actor asked lines living_ones (by_propagator event next made) =
-    absurd (no_client plan.change plan.strategy (phase past) asked (next ∙ ap (λ (t : Turn). Some t.event) made))
+    absurd (no_client plan.change plan.strategy (phase past) (is_behind plan past) asked (next ∙ ap (λ (t : Turn). Some t.event) made))
+came_client plan past actor asked lines living_ones (by_pace p event next made) =
+    absurd (no_pace plan.change plan.strategy p.what asked (next ∙ ap (λ (t : Turn). Some t.event) made))
 
 -- a client's turn is that of a client, as long as the lines and the living are of clients
 pub turn_of_client : (plan : Plan) (past : List Entry) (actor : ℕ) (asked : Request) → AllByRecursion (λ (l : Line). IsClient l.client) plan.lines → AllByRecursion IsClient (map (λ (l : Living). l.client) (living past)) → next_turn plan past ≡ Some (client_turn actor asked) → IsClient actor
@@ -299,14 +343,14 @@ legal_turn_of_client o plan past actor asked legal lines made =
     turn_of_client plan past actor asked lines (all_images (IsLiving (begun past)) IsClient (λ (l : Living). l.client) (λ l i. i.client) (living past) (legal_living o past legal).each) made
 
 -- what it takes for a journal without a next turn to be complete
-propagator_done : (change : Option Spec) (strategy : Strategy) (at : Phase) → (at ≡ Draining → ⊥) → propagator_event change strategy at ≡ None → MatchOption change ⊤ (λ _. IsSwitched at)
-propagator_done None strategy at free e = tt
-propagator_done (Some spec) strategy Idle free e = absurd (cc)
-propagator_done (Some spec) strategy Scanning free e = absurd (cc)
-propagator_done (Some spec) strategy Chasing free e = absurd (cc)
-propagator_done (Some spec) strategy Draining free e = absurd (free refl)
-propagator_done (Some spec) strategy Late free e = tt
-propagator_done (Some spec) strategy Done free e = tt
+propagator_done : (change : Option Spec) (strategy : Strategy) (at : Phase) (behind : Bool) → propagator_event change strategy at behind ≡ None → MatchOption change ⊤ (λ _. IsSwitched at)
+propagator_done None strategy at behind e = tt
+propagator_done (Some spec) strategy Idle behind e = absurd (cc)
+propagator_done (Some spec) strategy Scanning behind e = absurd (cc)
+propagator_done (Some spec) strategy Chasing behind e = absurd (cc)
+propagator_done (Some spec) strategy Draining behind e = absurd (cc)
+propagator_done (Some spec) strategy Late behind e = tt
+propagator_done (Some spec) strategy Done behind e = tt
 
 no_next_request : (plan : Plan) (past : List Entry) → open_line plan past ≡ None → least_living past ≡ None → (client : ℕ) → next_request plan client past ≡ None
 no_next_request plan past over nobody client = ap (λ next. or_undo next (txn_of past client)) (lines_over plan past over client) ∙ ap (or_undo None) (nobody_among (living past) nobody client)
@@ -319,15 +363,50 @@ event_none : (next : Option Event) → option_map propagator_turn next ≡ None 
 event_none None e = refl
 event_none (Some asked) e = absurd (cc)
 
-complete_at : (plan : Plan) (past : List Entry) (line : Option Line) (client : Option ℕ) → open_line plan past ≡ line → least_living past ≡ client → Stepped plan past → (phase past ≡ Draining → ⊥) → turn_at plan past line client ≡ None → IsComplete plan past
-complete_at plan past (Some l) client is lives stepped free none = absurd (line_made l.client (next_of_lines plan l.client past) (line_open plan past l is) none)
-complete_at plan past None (Some client) is lives stepped free none = absurd (cc)
-complete_at plan past None None is lives stepped free none = record {
+-- a line of the propagator that makes an event has one
+pace_made : (change : Option Spec) (strategy : Strategy) (holds : Bool) (what : PropLine) → makes_event change holds what ≡ true → option_map propagator_turn (pace_event change strategy what) ≡ None → ⊥
+pace_made None strategy holds prop.Start makes none = cc
+pace_made (Some spec) strategy holds prop.Start makes none = cc
+pace_made change strategy holds prop.Check makes none = cc
+pace_made change strategy holds prop.Switch makes none = cc
+pace_made change strategy holds (prop.Scan n) makes none = cc
+pace_made change strategy holds (prop.Fetch n) makes none = cc
+
+-- the first of the lines that are left makes an event
+record MakesFirst (change : Option Spec) (paces : List Pace) : Type 0 where
+  holds : Bool
+  makes : (p : Pace) (rest : List Pace) → paces ≡ p ∷ rest → makes_event change holds p.what ≡ true
+
+first_makes : (change : Option Spec) (holds : Bool) (paces : List Pace) (p : Pace) (rest : List Pace) → from_event change holds paces ≡ p ∷ rest → makes_event change holds p.what ≡ true
+first_makes change holds [] p rest e = absurd (cc)
+first_makes change holds (x ∷ paces) p rest e = by_cases (makes_event change holds x.what)
+    (λ t. let same : x ∷ paces ≡ p ∷ rest = rw t at e in let first : x ≡ p = cc in subst (λ (y : Pace). makes_event change holds y.what ≡ true) first t)
+    (λ f. first_makes change holds paces p rest (rw f at e))
+
+left_makes : (plan : Plan) (past : List Entry) → MakesFirst plan.change (paces_left plan past)
+left_makes plan [] = record { holds = false; makes = λ p rest e. first_makes plan.change false plan.paces p rest e }
+left_makes plan (e ∷ past) = by_cases (e.actor == 0)
+    (λ own. rw own (record { holds = holds_image (phase (e ∷ past)); makes = λ p rest is. first_makes plan.change (holds_image (phase (e ∷ past))) (behind_first (paces_left plan past)) p rest is }))
+    (λ other. rw other (left_makes plan past))
+
+pace_open : (plan : Plan) (past : List Entry) (p : Pace) (rest : List Pace) → paces_left plan past ≡ p ∷ rest → pace_turn plan p ≡ None → ⊥
+pace_open plan past p rest is none = (let m = left_makes plan past in pace_made plan.change plan.strategy m.holds p.what (m.makes p rest is) none)
+
+first_open_turn : (plan : Plan) (past : List Entry) (l : Line) (p : Pace) (rest : List Pace) (b : Bool) → open_line plan past ≡ Some l → paces_left plan past ≡ p ∷ rest → (if b then pace_turn plan p else line_turn plan past l) ≡ None → ⊥
+first_open_turn plan past l p rest true is left none = pace_open plan past p rest left none
+first_open_turn plan past l p rest false is left none = line_made l.client (next_of_lines plan l.client past) (line_open plan past l is) none
+
+complete_at : (plan : Plan) (past : List Entry) (line : Option Line) (paces : List Pace) (client : Option ℕ) → open_line plan past ≡ line → paces_left plan past ≡ paces → least_living past ≡ client → Stepped plan past → turn_at plan past line paces client ≡ None → IsComplete plan past
+complete_at plan past (Some l) [] client is left lives stepped none = absurd (line_made l.client (next_of_lines plan l.client past) (line_open plan past l is) none)
+complete_at plan past (Some l) (p ∷ paces) client is left lives stepped none = absurd (first_open_turn plan past l p paces (nat_lt p.line l.command.line) is left none)
+complete_at plan past None (p ∷ paces) client is left lives stepped none = absurd (pace_open plan past p paces left none)
+complete_at plan past None [] (Some client) is left lives stepped none = absurd (cc)
+complete_at plan past None [] None is left lives stepped none = record {
   keeps = stepped_keeps plan past stepped;
   ended = no_next_request plan past is lives;
-  switched = propagator_done plan.change plan.strategy (phase past) free (event_none (propagator_event plan.change plan.strategy (phase past)) none);
+  switched = propagator_done plan.change plan.strategy (phase past) (is_behind plan past) (event_none (propagator_event plan.change plan.strategy (phase past) (is_behind plan past)) none);
 }
 
--- a journal of one thread without a next turn is complete, unless a conflict drains
-pub complete_at_end : (plan : Plan) (past : List Entry) → Stepped plan past → next_turn plan past ≡ None → (phase past ≢ Draining) → IsComplete plan past
-complete_at_end plan past stepped e free = complete_at plan past (open_line plan past) (least_living past) refl refl stepped free e
+-- a journal of one thread without a next turn is complete
+pub complete_at_end : (plan : Plan) (past : List Entry) → Stepped plan past → next_turn plan past ≡ None → IsComplete plan past
+complete_at_end plan past stepped e = complete_at plan past (open_line plan past) (paces_left plan past) (least_living past) refl refl refl stepped e

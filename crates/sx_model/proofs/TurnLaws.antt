@@ -1,10 +1,8 @@
 -- The turns of clients: which line is open, how a client's standing goes on, and whose rollback comes next.
-use Rattle.std.proofs.Common.{◌≡◌, ◌≤◌, ◌<◌, ◌+◌, ◌==◌, ◌++◌, ◌⊎◌, ℕ, suc, Bool, true, false, List, [], ◌∷◌, length, map, min, Option, Some, None, refl, sym, ap, ◌∙◌, subst, inl, inr, arith, eqb-true, if◌then◌else◌}
+use Rattle.std.proofs.Common.{◌≡◌, ◌≤◌, ◌<◌, ◌+◌, ◌==◌, ◌++◌, ℕ, suc, Bool, true, false, List, [], ◌∷◌, length, map, min, Option, Some, None, refl, sym, ap, ◌∙◌, subst, inl, inr, arith, eqb-true, if◌then◌else◌}
 use Rattle.std.specs.Prelude.{slice_get, drop, nat_lt}
 use Rattle.std.specs.List.{AllByRecursion}
 use Rattle.std.proofs.lemmas.Bool.Decides.{nat_tests}
-use Rattle.sx_sync.specs.declared.Phase.{Phase}
-use Rattle.sx_sync.specs.declared.Phase.TheVariants.{Idle, Chasing, Draining}
 use Rattle.sx_journal.specs.declared.entry.Entry.{Entry}
 use Rattle.sx_journal.specs.declared.entry.Event.{Event}
 use Rattle.sx_journal.specs.declared.entry.Event.TheVariants as event
@@ -24,9 +22,9 @@ use Rattle.sx_model.specs.Leaves.{Living, living, living_after, without, txn_amo
 use Rattle.sx_model.specs.Clients.{IsLiving}
 use Rattle.sx_sync.specs.Ready.{lesser, least}
 use Rattle.sx_model.specs.Legal.{Allows, is_committed, HasRoom, Legal}
-use Rattle.sx_model.specs.Schedules.{Line, Plan, commands_of, standing_of, client_turn, one_less, first_open, open_line, least_living, turn_at, next_turn}
+use Rattle.sx_model.specs.Schedules.{Line, Plan, commands_of, standing_of, client_turn, one_less, first_open, open_line, least_living, turn_at, next_turn, paces_left}
 use Rattle.sx_model.proofs.TestLaws.{by_cases}
-use Rattle.sx_model.proofs.Outcomes.{Outcome, rests, begins, reads, writes, commits, undoes, aborts, starts, sees, conflicts, switches, outcome}
+use Rattle.sx_model.proofs.Outcomes.{Outcome, rests, begins, reads, writes, commits, undoes, aborts, starts, sees, fetches, conflicts, switches, outcome}
 use Rattle.sx_model.proofs.LivingLaws.{legal_living}
 use Rattle.sx_model.proofs.ScriptLaws.{count_of, none_open, least_among, IsIn}
 
@@ -131,6 +129,14 @@ stay_over plan e past over = none_behind plan.lines (λ client. index_of (standi
     let forward = standing_forward plan client e past in
     omega arith)
 
+-- the propagator's lines that are worked through stay so too
+pub paces_stay_over : (plan : Plan) (e : Entry) (past : List Entry) → paces_left plan past ≡ [] → paces_left plan (e ∷ past) ≡ []
+paces_stay_over plan e past over = by_cases (e.actor == 0) (λ own. rw (own, over) refl) (λ other. rw other over)
+
+-- a client's entry leaves the lines of the propagator
+pub paces_kept : (plan : Plan) (e : Entry) (past : List Entry) → 1 ≤ e.actor → paces_left plan (e ∷ past) ≡ paces_left plan past
+paces_kept plan e past one = (let other : (e.actor == 0) ≡ false = grind (arith, nat_tests) in rw other refl)
+
 -- each of the living is a client with a transaction
 other_first : (x : Living) (xs : List Living) (client : ℕ) → (x.client == client) ≡ false → txn_among (x ∷ xs) client ≡ txn_among xs client
 other_first x xs client other = rw other refl
@@ -230,10 +236,10 @@ least_at (x ∷ xs) client i below =
     ap Some (lesser_rest x.client client (least (map (λ (l : Living). l.client) xs)) found (lives_above (x ∷ xs) client x.client below (in_first x xs))))
 
 -- behind the lines the next turn is an Undo of a client that lives, where none lives below
-pub undo_next : (plan : Plan) (past : List Entry) (client txn : ℕ) → open_line plan past ≡ None → txn_of past client ≡ Some txn → ((other : ℕ) → other < client → txn_of past other ≡ None) → next_turn plan past ≡ Some (client_turn client Undo)
-undo_next plan past client txn over lives below =
+pub undo_next : (plan : Plan) (past : List Entry) (client txn : ℕ) → open_line plan past ≡ None → paces_left plan past ≡ [] → txn_of past client ≡ Some txn → ((other : ℕ) → other < client → txn_of past other ≡ None) → next_turn plan past ≡ Some (client_turn client Undo)
+undo_next plan past client txn over passed lives below =
     let least_one : least_living past ≡ Some client = least_at (living past) client (record { txn = txn; is = lives }) below in
-    ap (λ line. turn_at plan past line (least_living past)) over ∙ ap (turn_at plan past None) least_one
+    ap (λ line. turn_at plan past line (paces_left plan past) (least_living past)) over ∙ ap (λ paces. turn_at plan past None paces (least_living past)) passed ∙ ap (turn_at plan past None []) least_one
 
 -- where no client from 1 to 8 has a transaction nobody lives
 nobody : (begun : ℕ) (xs : List Living) → AllByRecursion (IsLiving begun) xs → ((client : ℕ) → client < 9 → txn_among xs client ≡ None) → xs ≡ []
@@ -291,8 +297,9 @@ ends_one o past e is (undoes u) = absurd (let told = u.told in cc)
 ends_one o past e is (aborts a) = absurd (let told = a.told in cc)
 ends_one o past e is (starts s) = absurd (let told = s.told in cc)
 ends_one o past e is (sees s) = absurd (let told = s.told in cc)
+ends_one o past e is (fetches f) = absurd (let told = f.told in cc)
 ends_one o past e is (conflicts a told) = absurd (cc)
-ends_one o past e is (switches a told) = absurd (cc)
+ends_one o past e is (switches w) = absurd (let told = w.told in cc)
 
 room_left : (o : Opening) (past : List Entry) (e : Entry) → Legal o (e ∷ past) → length past + length (living past) ≤ 50001 → HasRoom past e.reply → length (e ∷ past) + length (living (e ∷ past)) ≤ 50001
 room_left o past e legal before (inl room) = (let more = one_more e.actor (effect e.reply) (living past) in omega arith)
@@ -302,40 +309,38 @@ pub legal_bounded : (o : Opening) (past : List Entry) → Legal o past → lengt
 legal_bounded o [] legal = omega arith
 legal_bounded o (e ∷ past) legal = room_left o past e legal (legal_bounded o past legal.0) legal.1.room
 
--- a client's entry leaves the phase Idle
-by_client : (o : Opening) (past : List Entry) (actor : ℕ) (asked : Event) (answer : Reply) (request : Request) → asked ≡ event.Client request → Allows o past actor asked answer → phase past ≡ Idle
-unfolding Allows
-by_client o past actor (event.Client other) answer request is a = a.idle
-by_client o past actor (event.Start spec strategy) answer request is a = absurd (cc)
-by_client o past actor (event.Scan n) answer request is a = absurd (cc)
-by_client o past actor event.Switch answer request is a = absurd (cc)
-by_client o past actor (event.Fetch n) answer request is a = absurd (cc)
-by_client o past actor (event.Check group) answer request is a = absurd (cc)
-by_client o past actor event.Cancel answer request is a = absurd (cc)
-
-scanned_not_idle : (at : Phase) → at ≡ Idle → (at ≡ Chasing) ⊎ (at ≡ Draining) → ⊥
-scanned_not_idle at idle (inl e) = cc
-scanned_not_idle at idle (inr e) = cc
-
 -- the phase behind an entry with this effect
 phase_by : (past : List Entry) (e : Entry) (f : Effect) → effect e.reply ≡ f → phase (e ∷ past) ≡ phase_after (started past) f (phase past)
 phase_by past e f told = ap (λ g. phase_after (started past) g (phase past)) told
 
-idle_after : (o : Opening) (past : List Entry) (e : Entry) (request : Request) → e.event ≡ event.Client request → phase past ≡ Idle → Outcome o past e → phase (e ∷ past) ≡ Idle
-idle_after o past e request is idle (rests told) = phase_by past e Nothing told ∙ idle
-idle_after o past e request is idle (begins b) = phase_by past e (Begins (begun past + 1)) b.told ∙ idle
-idle_after o past e request is idle (reads r) = phase_by past e Reads r.told ∙ idle
-idle_after o past e request is idle (writes w) = phase_by past e Writes w.told ∙ idle
-idle_after o past e request is idle (commits c) = phase_by past e Commits c.told ∙ idle
-idle_after o past e request is idle (undoes u) = phase_by past e Undoes u.told ∙ idle
-idle_after o past e request is idle (aborts a) = phase_by past e Aborts a.told ∙ idle
-idle_after o past e request is idle (starts s) = absurd (let asked = s.asked in cc)
-idle_after o past e request is idle (sees s) = absurd (let scanning = s.turn.scanning in cc)
-idle_after o past e request is idle (conflicts a told) = absurd (scanned_not_idle (phase past) idle a.scanned)
-idle_after o past e request is idle (switches a told) = absurd (scanned_not_idle (phase past) idle a.scanned)
+-- a client is an actor from 1 on
+from_one : (o : Opening) (past : List Entry) (actor : ℕ) (asked : Event) (answer : Reply) (request : Request) → asked ≡ event.Client request → Allows o past actor asked answer → 1 ≤ actor
+unfolding Allows
+from_one o past actor (event.Client other) answer request is a = a.from_one
+from_one o past actor (event.Start spec strategy) answer request is a = absurd (cc)
+from_one o past actor (event.Scan n) answer request is a = absurd (cc)
+from_one o past actor event.Switch answer request is a = absurd (cc)
+from_one o past actor (event.Fetch n) answer request is a = absurd (cc)
+from_one o past actor (event.Check group) answer request is a = absurd (cc)
+from_one o past actor event.Cancel answer request is a = absurd (cc)
 
-pub client_idle : (o : Opening) (past : List Entry) (e : Entry) (request : Request) → Legal o (e ∷ past) → e.event ≡ event.Client request → phase (e ∷ past) ≡ Idle
-client_idle o past e request legal is = idle_after o past e request is (by_client o past e.actor e.event e.reply request is legal.1.allowed) (outcome o past e legal)
+-- a client's entry leaves the phase
+phase_kept : (o : Opening) (past : List Entry) (e : Entry) → 1 ≤ e.actor → Outcome o past e → phase (e ∷ past) ≡ phase past
+phase_kept o past e one (rests told) = phase_by past e Nothing told
+phase_kept o past e one (begins b) = phase_by past e (Begins (begun past + 1)) b.told
+phase_kept o past e one (reads r) = phase_by past e Reads r.told
+phase_kept o past e one (writes w) = phase_by past e Writes w.told
+phase_kept o past e one (commits c) = phase_by past e Commits c.told
+phase_kept o past e one (undoes u) = phase_by past e Undoes u.told
+phase_kept o past e one (aborts a) = phase_by past e Aborts a.told
+phase_kept o past e one (starts s) = absurd (let own = s.own in omega arith)
+phase_kept o past e one (sees s) = absurd (let own = s.own in omega arith)
+phase_kept o past e one (fetches f) = absurd (let own = f.own in omega arith)
+phase_kept o past e one (conflicts a told) = absurd (let own = a.own in omega arith)
+phase_kept o past e one (switches w) = absurd (let own = w.attempt.own in omega arith)
+
+pub client_keeps_phase : (o : Opening) (past : List Entry) (e : Entry) (request : Request) → Legal o (e ∷ past) → e.event ≡ event.Client request → phase (e ∷ past) ≡ phase past
+client_keeps_phase o past e request legal is = phase_kept o past e (from_one o past e.actor e.event e.reply request is legal.1.allowed) (outcome o past e legal)
 
 -- client 0 never lives
 none_outside : (begun : ℕ) (xs : List Living) (client : ℕ) → AllByRecursion (IsLiving begun) xs → client < 1 → txn_among xs client ≡ None

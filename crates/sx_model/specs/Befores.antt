@@ -1,5 +1,5 @@
 -- What a log's records say of the rows before them. A log is seen newest first.
-use Rattle.std.specs.Prelude.{◌≡◌, ⊤, true, ℕ, List, [], ◌∷◌, Option, None}
+use Rattle.std.specs.Prelude.{◌≡◌, ◌≤◌, ⊤, true, length, ℕ, List, [], ◌∷◌, Option, None}
 use Rattle.sx_values.specs.declared.value.Value.{Value}
 use Rattle.sx_log.specs.declared.record.Rec.{Rec}
 use Rattle.sx_log.specs.declared.record.Body.{Body}
@@ -17,7 +17,7 @@ before_of Mark = None
 before_of (Check group dep) = None
 before_of Switch = None
 
--- each record about a key has, as its image before, the row that the records before it left there
-abbrev pub KeepsBefore : List Rec → List ℕ → List Value → Type 0
-KeepsBefore [] table key = ⊤
-KeepsBefore (r ∷ past) table key = KeepsBefore past table key × (is_about r.body table key ≡ true → before_of r.body ≡ row_left past table key)
+-- each record about a key behind a place has, as its image before, the row that the records before it left there
+abbrev pub KeepsSince : ℕ → List Rec → List ℕ → List Value → Type 0
+KeepsSince place [] table key = ⊤
+KeepsSince place (r ∷ past) table key = KeepsSince place past table key × (place ≤ length past → is_about r.body table key ≡ true → before_of r.body ≡ row_left past table key)

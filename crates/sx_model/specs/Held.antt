@@ -13,7 +13,8 @@ use Rattle.sx_journal.specs.declared.entry.Event.TheVariants as event
 use Rattle.sx_journal.specs.declared.entry.Request.{Request}
 use Rattle.sx_journal.specs.declared.entry.Request.TheVariants as request
 use Rattle.sx_model.specs.Effects.{Effect, Reads, Writes, Undoes, Commits, Aborts, effect}
-use Rattle.sx_model.specs.Openings.{key_in}
+use Rattle.sx_model.specs.Openings.{Opening, key_in}
+use Rattle.sx_model.specs.Known.{known}
 use Rattle.sx_model.specs.Leaves.{Living, living, txn_of}
 
 -- whether a request asks for this key of this table
@@ -43,11 +44,11 @@ is_txn txn None = false
 is_txn txn (Some other) = txn == other
 
 -- the lock that a transaction has on a key of a table, by its entries
-abbrev pub lock_of : List Declared → List Entry → ℕ → List ℕ → List Value → Option Mode
-lock_of catalog [] txn table key = None
-lock_of catalog (e ∷ past) txn table key =
-    if is_txn txn (txn_of past e.actor) then lock_after catalog e.event (effect e.reply) table key (lock_of catalog past txn table key)
-    else lock_of catalog past txn table key
+abbrev pub lock_of : Opening → List Entry → ℕ → List ℕ → List Value → Option Mode
+lock_of o [] txn table key = None
+lock_of o (e ∷ past) txn table key =
+    if is_txn txn (txn_of past e.actor) then lock_after (known o past) e.event (effect e.reply) table key (lock_of o past txn table key)
+    else lock_of o past txn table key
 
 -- whether an answer undoes a write
 abbrev pub undoes : Effect → Bool
@@ -60,9 +61,9 @@ is_ending [] txn = false
 is_ending (e ∷ past) txn = (is_txn txn (txn_of past e.actor) && undoes (effect e.reply)) || is_ending past txn
 
 -- whether a live transaction is another than this one, with a lock on the key that conflicts with this mode
-abbrev pub holds_against : List Declared → List Entry → ℕ → List ℕ → List Value → Mode → Living → Bool
-holds_against catalog past txn table key mode l = not (txn == l.txn) && is_against (lock_of catalog past l.txn table key) mode
+abbrev pub holds_against : Opening → List Entry → ℕ → List ℕ → List Value → Mode → Living → Bool
+holds_against o past txn table key mode l = not (txn == l.txn) && is_against (lock_of o past l.txn table key) mode
 
 -- the least live other transaction with a conflicting lock on a key of a table, if there is one
-abbrev pub holder : List Declared → List Entry → ℕ → List ℕ → List Value → Mode → Option ℕ
-holder catalog past txn table key mode = least (map (λ (l : Living). l.txn) (filter (holds_against catalog past txn table key mode) (living past)))
+abbrev pub holder : Opening → List Entry → ℕ → List ℕ → List Value → Mode → Option ℕ
+holder o past txn table key mode = least (map (λ (l : Living). l.txn) (filter (holds_against o past txn table key mode) (living past)))

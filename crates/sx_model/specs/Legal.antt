@@ -15,13 +15,13 @@ use Rattle.sx_model.specs.Openings.{Opening}
 use Rattle.sx_model.specs.Leaves.{living, phase}
 use Rattle.sx_model.specs.Replies.{client_reply, start_reply}
 use Rattle.sx_model.specs.Scans.{IsScanTurn}
+use Rattle.sx_model.specs.Fetches.{fetch_reply}
 use Rattle.sx_model.specs.Switches.{switch_reply}
 
--- a client's request and its answer; until propagation comes, clients work before a transformation starts
+-- a client's request and its answer
 pub record AllowsClient (o : Opening) (past : List Entry) (actor : ℕ) (asked : Request) (answer : Reply) : Type 0 where
   pub from_one : 1 ≤ actor
   pub to_eight : actor ≤ 8
-  pub idle : phase past ≡ Idle
   pub answered : answer ≡ client_reply o past actor asked
 
 -- a start and its answer; until the other strategies and operators come, it is a horizontal split under blocking commit
@@ -45,18 +45,25 @@ pub record AllowsScan (o : Opening) (past : List Entry) (actor n : ℕ) (answer 
   pub few : n ≤ 64
   pub answered : ScanAnswer o past n answer
 
+-- a fetch is the propagator's, of 1 to 256 records, and its answer is the one that the definition gives
+pub record AllowsFetch (o : Opening) (past : List Entry) (actor n : ℕ) (answer : Reply) : Type 0 where
+  pub propagator : actor ≡ 0
+  pub some : 1 ≤ n
+  pub few : n ≤ 256
+  pub answered : answer ≡ fetch_reply o past n
+
 -- an attempt to switch is the propagator's, and its answer is the one that the definition gives
 pub record AllowsSwitch (o : Opening) (past : List Entry) (actor : ℕ) (answer : Reply) : Type 0 where
   pub propagator : actor ≡ 0
   pub answered : answer ≡ switch_reply o past
 
--- an event and its answer are allowed behind these entries; a fetch, a check and a cancel come with their requests
+-- an event and its answer are allowed behind these entries; a check and a cancel come with the vertical split
 unfoldable pub Allows : Opening → List Entry → ℕ → Event → Reply → Type 0
 Allows o past actor (event.Client asked) answer = AllowsClient o past actor asked answer
 Allows o past actor (event.Start spec strategy) answer = AllowsStart o past actor spec strategy answer
 Allows o past actor (event.Scan n) answer = AllowsScan o past actor n answer
 Allows o past actor event.Switch answer = AllowsSwitch o past actor answer
-Allows o past actor (event.Fetch n) answer = ⊥
+Allows o past actor (event.Fetch n) answer = AllowsFetch o past actor n answer
 Allows o past actor (event.Check group) answer = ⊥
 Allows o past actor event.Cancel answer = ⊥
 

@@ -1,5 +1,5 @@
 -- What a script asks of a journal.
-use Rattle.std.specs.Prelude.{◌≡◌, ◌≤◌, ◌+◌, ◌-◌, ◌==◌, ⊤, Bool, false, ℕ, List, [], ◌∷◌, length, filter, map, Option, Some, None, option_map, MatchOption, if◌then◌else◌}
+use Rattle.std.specs.Prelude.{◌≡◌, ◌≤◌, ◌+◌, ◌-◌, ◌==◌, ⊤, Bool, true, false, is_some, nat_lt, ℕ, List, [], ◌∷◌, length, filter, map, Option, Some, None, option_map, MatchOption, if◌then◌else◌}
 use Rattle.sx_values.specs.declared.catalog.Declared.{Declared}
 use Rattle.sx_log.specs.declared.record.Load.{Load}
 use Rattle.sx_ops.specs.declared.spec.Spec.{Spec}
@@ -8,7 +8,9 @@ use Rattle.sx_sync.specs.declared.Phase.{Phase}
 use Rattle.sx_sync.specs.declared.Phase.TheVariants.{Idle, Scanning, Chasing, Draining, Late, Done}
 use Rattle.sx_journal.specs.declared.entry.Entry.{Entry}
 use Rattle.sx_journal.specs.declared.entry.Event.{Event}
-use Rattle.sx_journal.specs.declared.entry.Event.TheVariants.{Client, Start, Scan, Switch}
+use Rattle.sx_journal.specs.declared.entry.Event.TheVariants.{Client, Start, Scan, Fetch, Switch}
+use Rattle.sx_journal.specs.declared.entry.PropLine.{PropLine}
+use Rattle.sx_journal.specs.declared.entry.PropLine.TheVariants as prop
 use Rattle.sx_journal.specs.declared.entry.Request.{Request}
 use Rattle.sx_journal.specs.declared.entry.Request.TheVariants.{Undo}
 use Rattle.sx_journal.specs.declared.course.Command.{Command}
@@ -16,6 +18,8 @@ use Rattle.sx_journal.specs.declared.course.Standing.{Standing}
 use Rattle.sx_journal.specs.Courses.{standing_by, next_at, index_of}
 use Rattle.sx_model.specs.Openings.{Opening, opening}
 use Rattle.sx_model.specs.Leaves.{Living, living, txn_of, phase}
+use Rattle.sx_model.specs.Logs.{log_of}
+use Rattle.sx_model.specs.Switches.{position}
 use Rattle.sx_sync.specs.Ready.{least}
 use Rattle.sx_model.specs.Replies.{client_reply}
 use Rattle.sx_model.specs.Legal.{is_committed}
@@ -25,11 +29,17 @@ pub record Line : Type 0 where
   pub client : ℕ
   pub command : Command
 
+-- a line of the propagator, at its place in the script
+pub record Pace : Type 0 where
+  pub line : ℕ
+  pub what : PropLine
+
 -- the plain parts of a script
 pub record Plan : Type 0 where
   pub catalog : List Declared
   pub loads : List Load
   pub lines : List Line
+  pub paces : List Pace
   pub change : Option Spec
   pub strategy : Strategy
   pub retries : ℕ
@@ -90,15 +100,61 @@ pub record IsComplete (plan : Plan) (past : List Entry) : Type 0 where
   pub ended : (client : ℕ) → next_request plan client past ≡ None
   pub switched : MatchOption plan.change ⊤ (λ _. IsSwitched (phase past))
 
--- what the propagator does at the end, by how far the transformation has come
-abbrev pub propagator_event : Option Spec → Strategy → Phase → Option Event
-propagator_event None strategy phase = None
-propagator_event (Some spec) strategy Idle = Some (Start spec strategy)
-propagator_event (Some spec) strategy Scanning = Some (Scan 64)
-propagator_event (Some spec) strategy Chasing = Some Switch
-propagator_event (Some spec) strategy Draining = None
-propagator_event (Some spec) strategy Late = None
-propagator_event (Some spec) strategy Done = None
+-- while the propagator holds an image
+abbrev pub holds_image : Phase → Bool
+holds_image Idle = false
+holds_image Scanning = true
+holds_image Chasing = true
+holds_image Draining = true
+holds_image Late = false
+holds_image Done = false
+
+-- whether a line of the propagator makes an event: a start does where there is a transformation, the others while an image is held, and a check none, since no group is flagged
+abbrev pub makes_event : Option Spec → Bool → PropLine → Bool
+makes_event change holds prop.Start = is_some change
+makes_event change holds prop.Check = false
+makes_event change holds prop.Switch = holds
+makes_event change holds (prop.Scan n) = holds
+makes_event change holds (prop.Fetch n) = holds
+
+-- these lines without the first ones that are passed over
+abbrev pub from_event : Option Spec → Bool → List Pace → List Pace
+from_event change holds [] = []
+from_event change holds (p ∷ paces) = if makes_event change holds p.what then p ∷ paces else from_event change holds paces
+
+-- these without the first
+abbrev pub behind_first : List Pace → List Pace
+behind_first [] = []
+behind_first (p ∷ paces) = paces
+
+-- the lines of the propagator that are left, of which the first makes an event: each entry of its own comes past one
+abbrev pub paces_left : Plan → List Entry → List Pace
+paces_left plan [] = from_event plan.change false plan.paces
+paces_left plan (e ∷ past) =
+    if e.actor == 0 then from_event plan.change (holds_image (phase (e ∷ past))) (behind_first (paces_left plan past))
+    else paces_left plan past
+
+-- the event of a line of the propagator
+abbrev pub pace_event : Option Spec → Strategy → PropLine → Option Event
+pace_event change strategy prop.Start = option_map (λ spec. Start spec strategy) change
+pace_event change strategy prop.Check = None
+pace_event change strategy prop.Switch = Some Switch
+pace_event change strategy (prop.Scan n) = Some (Scan n)
+pace_event change strategy (prop.Fetch n) = Some (Fetch n)
+
+-- what the propagator does at the end, by how far the transformation has come, and whether records are left to read
+abbrev pub propagator_event : Option Spec → Strategy → Phase → Bool → Option Event
+propagator_event None strategy phase behind = None
+propagator_event (Some spec) strategy Idle behind = Some (Start spec strategy)
+propagator_event (Some spec) strategy Scanning behind = Some (Scan 64)
+propagator_event (Some spec) strategy Chasing behind = Some (if behind then Fetch 256 else Switch)
+propagator_event (Some spec) strategy Draining behind = Some (if behind then Fetch 256 else Switch)
+propagator_event (Some spec) strategy Late behind = None
+propagator_event (Some spec) strategy Done behind = None
+
+-- whether the log is longer than the propagator has read it
+abbrev pub is_behind : Plan → List Entry → Bool
+is_behind plan past = nat_lt (position (opening_of plan) past) (length (log_of (opening_of plan) past))
 
 -- an event and who makes it
 pub record Turn : Type 0 where
@@ -130,15 +186,25 @@ open_line plan past = first_open plan.lines (λ client. index_of (standing_of pl
 abbrev pub least_living : List Entry → Option ℕ
 least_living past = least (map (λ (l : Living). l.client) (living past))
 
--- the turn of an open line's client; or else of the least client that has yet to undo; or else the propagator's
-abbrev pub turn_at : Plan → List Entry → Option Line → Option ℕ → Option Turn
-turn_at plan past (Some l) client = option_map (client_turn l.client) (next_of_lines plan l.client past)
-turn_at plan past None (Some client) = Some (client_turn client Undo)
-turn_at plan past None None = option_map propagator_turn (propagator_event plan.change plan.strategy (phase past))
+-- the turn of a line of the propagator
+abbrev pub pace_turn : Plan → Pace → Option Turn
+pace_turn plan p = option_map propagator_turn (pace_event plan.change plan.strategy p.what)
 
--- the next turn of one thread: the lines in script order, each worked through to its end, then the rollbacks, and then start, scan turns of 64 and the switch
+-- the turn of an open line's client
+abbrev pub line_turn : Plan → List Entry → Line → Option Turn
+line_turn plan past l = option_map (client_turn l.client) (next_of_lines plan l.client past)
+
+-- the turn of the first open line; or else of the least client that has yet to undo; or else the propagator's
+abbrev pub turn_at : Plan → List Entry → Option Line → List Pace → Option ℕ → Option Turn
+turn_at plan past (Some l) [] client = line_turn plan past l
+turn_at plan past (Some l) (p ∷ paces) client = if nat_lt p.line l.command.line then pace_turn plan p else line_turn plan past l
+turn_at plan past None (p ∷ paces) client = pace_turn plan p
+turn_at plan past None [] (Some client) = Some (client_turn client Undo)
+turn_at plan past None [] None = option_map propagator_turn (propagator_event plan.change plan.strategy (phase past) (is_behind plan past))
+
+-- the next turn of one thread: the lines in script order, each worked through to its end, then the rollbacks, and then start, scan turns of 64, fetches of 256 and the switch
 abbrev pub next_turn : Plan → List Entry → Option Turn
-next_turn plan past = turn_at plan past (open_line plan past) (least_living past)
+next_turn plan past = turn_at plan past (open_line plan past) (paces_left plan past) (least_living past)
 
 -- each event is the next turn of one thread
 abbrev pub Stepped : Plan → List Entry → Type 0

@@ -3,14 +3,13 @@ use Rattle.std.specs.Prelude.{◌≡◌, ◌++◌, ℕ, List, codes}
 use Rattle.sx_log.specs.declared.record.Rec.{Rec}
 use Rattle.sx_heap.specs.declared.tables.NamedTable.{NamedTable}
 use Rattle.sx_journal.specs.declared.entry.Entry.{Entry}
-use Rattle.sx_model.specs.Leaves.{phase}
 use Rattle.sx_model.specs.Logs.{log_of}
 use Rattle.sx_lines.specs.declared.line.Line.{Line}
 use Rattle.sx_script.specs.Printing.{script_text}
 use Rattle.sx_core.specs.Machines.{Machine}
 use Rattle.sx_txn.specs.Managed.{AreTables}
 use Rattle.sx_core.specs.Kept.{shapes_of}
-use Rattle.sx_core.specs.Views.{NewTablesMeet}
+use Rattle.sx_core.specs.Views.{AreNew}
 use Rattle.sx_report.specs.declared.end.ReportEnd.{ReportEnd}
 use Rattle.sx_report.specs.EntryLines.{journal_lines}
 use Rattle.sx_report.specs.LogLines.{log_lines}
@@ -35,5 +34,6 @@ pub record IsReport (script : List Line) (machine : Machine) (end : ReportEnd) (
   pub new_tables : List NamedTable
   pub meet : AreTables (log_of machine.opening machine.past) (shapes_of machine.opening.catalog) tables
   pub in_order : AreRelations tables
-  pub new_meet : NewTablesMeet machine.opening machine.past (phase machine.past) new_tables
+  pub new_meet : AreNew machine.opening machine.past new_tables
+  pub new_in_order : AreRelations new_tables
   pub shows : text ≡ report_text (script_text script) machine.past (log_of machine.opening machine.past) tables new_tables end

@@ -73,6 +73,7 @@ pub(crate) fn put_tail(
 ) -> Result<(), AllocError>
     ensures text { OnOk result (out.new.items ≡ out.old.items ++ tail_text tables.now new_tables.now end.now) }
     ensures relations { OnOk result (AreRelations tables.now) }
+    ensures new_relations { OnOk result (AreRelations new_tables.now) }
 {
     put(out, b"tables\n")?;
     put_tables(alloc, out, tables)?;

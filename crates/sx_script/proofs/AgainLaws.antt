@@ -12,10 +12,11 @@ use Rattle.sx_lines.specs.Forms.{HasLayouts, line_of}
 use Rattle.sx_lines.specs.Printing.{line_text}
 use Rattle.sx_lines.proofs.NameLaws.{lines_front, printable_free}
 use Rattle.sx_lines.proofs.AgainLaws.{IsAgain, line_again}
-use Rattle.sx_script.specs.Plans.{plan_of, table_of, accepts}
+use Rattle.sx_script.specs.Plans.{plan_of, known, table_of, accepts}
 use Rattle.sx_script.specs.Reading.{line_in, item_in, lines_read, script_read}
 use Rattle.sx_script.specs.Printing.{script_text}
 use Rattle.sx_script.proofs.KeepLaws.{found_still}
+use Rattle.sx_script.proofs.KnownLaws.{known_layouts}
 use Rattle.sx_script.proofs.ScriptLaws.{script_short}
 
 -- what a line's text shows: nothing, or a line that is read again
@@ -23,23 +24,23 @@ data ItemAgain (sofar item : List Line) : Type 0 where
   Nothing : item ≡ [] → ItemAgain sofar item
   Again : (l : Line) → item ≡ l ∷ [] → item_in sofar (line_text l) ≡ Some (l ∷ []) → list_all is_printable (line_text l) ≡ true → ItemAgain sofar item
 
-accepted_again : (sofar : List Line) (l : Line) → accepts sofar l ≡ true → IsAgain (plan_of sofar).catalog l → item_in sofar (line_text l) ≡ Some (l ∷ [])
+accepted_again : (sofar : List Line) (l : Line) → accepts sofar l ≡ true → IsAgain (known (plan_of sofar)) l → item_in sofar (line_text l) ≡ Some (l ∷ [])
 unfolding item_in line_in
 accepted_again sofar l a is = rw (is.printable, is.meant, is.again, a) refl
 
-item_again : (sofar : List Line) (text : List ℕ) (item : List Line) → HasLayouts (plan_of sofar).catalog → item_in sofar text ≡ Some item → ItemAgain sofar item
+item_again : (sofar : List Line) (text : List ℕ) (item : List Line) → HasLayouts (known (plan_of sofar)) → item_in sofar text ≡ Some item → ItemAgain sofar item
 unfolding item_in line_in
-item_again sofar text item has e = by (list_all is_printable text) (is_passed_over text) (line_of (plan_of sofar).catalog text) refl e
+item_again sofar text item has e = by (list_all is_printable text) (is_passed_over text) (line_of (known (plan_of sofar)) text) refl e
   where
-    one : (l : Line) (t : Bool) → accepts sofar l ≡ t → IsAgain (plan_of sofar).catalog l → option_map (λ shown. shown ∷ []) (when t l) ≡ Some item → ItemAgain sofar item
+    one : (l : Line) (t : Bool) → accepts sofar l ≡ t → IsAgain (known (plan_of sofar)) l → option_map (λ shown. shown ∷ []) (when t l) ≡ Some item → ItemAgain sofar item
     one l true a is f = Again l (sym (cc)) (accepted_again sofar l a is) is.printable
     one l false a is f = absurd (cc)
 
-    by : (t u : Bool) (found : Option Line) → line_of (plan_of sofar).catalog text ≡ found
+    by : (t u : Bool) (found : Option Line) → line_of (known (plan_of sofar)) text ≡ found
         → cond t (cond u (Some []) (option_map (λ shown. shown ∷ []) (option_and_then (λ shown. when (accepts sofar shown) shown) found))) None ≡ Some item → ItemAgain sofar item
     by true true found d f = Nothing (sym (cc))
     by true false None d f = absurd (cc)
-    by true false (Some l) d f = one l (accepts sofar l) refl (line_again (plan_of sofar).catalog text l has d) f
+    by true false (Some l) d f = one l (accepts sofar l) refl (line_again (known (plan_of sofar)) text l has d) f
     by false u found d f = absurd (cc)
 
 layouts_before : (sofar more : List Line) → HasLayouts (plan_of (sofar ++ more)).catalog → HasLayouts (plan_of sofar).catalog
@@ -86,7 +87,7 @@ lines_again sofar lines (text ∷ texts) has e =
             let same : item ++ more ≡ lines = cc in
             let all = subst (λ ls. HasLayouts (plan_of (sofar ++ ls)).catalog) (sym same) has in
             let apart = subst (λ ls. HasLayouts (plan_of ls).catalog) (sym (append_assoc sofar item more)) all in
-            step_again sofar item more lines (item_again sofar text item (layouts_before sofar (item ++ more) all) d) (go item more apart g) same
+            step_again sofar item more lines (item_again sofar text item (known_layouts (plan_of sofar) (layouts_before sofar (item ++ more) all)) d) (go item more apart g) same
 
 pub text_of_lines : (lines : List Line) → AllPrintable lines → text_lines (script_text lines) ≡ map line_text lines
 text_of_lines [] p = refl

@@ -14,18 +14,23 @@ use Rattle.sx_log.specs.declared.record.Load.{Load}
 use Rattle.sx_log.specs.State.{is_place}
 use Rattle.sx_ops.specs.declared.spec.Spec.{Spec}
 use Rattle.sx_ops.specs.Checks.{IsShaped, spec_fault}
+use Rattle.sx_sync.specs.declared.Strategy.{Strategy}
+use Rattle.sx_sync.specs.declared.Strategy.TheVariants.{Blocking, NonBlockingAbort, NonBlockingCommit}
+use Rattle.sx_sync.specs.Ready.{is_blocking}
+use Rattle.sx_journal.specs.declared.entry.PropLine.{PropLine}
 use Rattle.sx_journal.specs.declared.entry.What.{What}
-use Rattle.sx_model.specs.Schedules.{Plan, Line as Asked}
+use Rattle.sx_model.specs.Schedules.{Plan, Line as Asked, Pace}
 use Rattle.sx_model.specs.Openings.{key_under, key_in}
 use Rattle.sx_model.specs.Loads.{IsAdmitted, AreApart, is_repeated}
 use Rattle.sx_lines.specs.declared.line.Line.{Line}
 use Rattle.sx_lines.specs.declared.line.Line.TheVariants as line
 use Rattle.sx_lines.specs.Lines.{when}
+use Rattle.sx_lines.specs.Forms.{IsPace}
 use Rattle.sx_script.specs.declared.parser.Place.{Place}
-use Rattle.sx_script.specs.Plans.{plan_of, has_retries, is_declaring, is_client, admits, accepts}
+use Rattle.sx_script.specs.Plans.{plan_of, known_by, has_retries, has_strategy, is_declaring, is_client, admits, accepts}
 use Rattle.sx_script.specs.Sound.{IsSound, IsClients}
 use Rattle.sx_script.specs.Parsers.{Keeps, KeepsPlan, has_key, is_among}
-use Rattle.sx_script.proofs.PlanLaws.{table, asked, plan_table, plan_row, plan_change, plan_retries, plan_client, retries_same, retries_more}
+use Rattle.sx_script.proofs.PlanLaws.{table, asked, paced, plan_table, plan_row, plan_change, plan_retries, plan_strategy, plan_client, plan_pace, retries_same, retries_more, strategy_same, strategy_more}
 
 all_push : {X : Type 0} (P : X → Type 0) (xs : List X) (x : X) → AllByRecursion P xs → P x → AllByRecursion P (xs ++ x ∷ [])
 all_push P [] x h p = (p, tt)
@@ -87,27 +92,35 @@ sound_table plan t n s = record {
   admitted = admitted_still plan.catalog (t ∷ []) plan.loads s.admitted;
   apart = apart_still plan.catalog (t ∷ []) plan.loads s.admitted s.apart;
   fits = rw n tt;
+  blocking = s.blocking;
   clients = s.clients;
+  paces = s.paces;
   few_retries = s.few_retries;
 }
 
-pub keeps_table : (lines : List Line) (catalog after : List Declared) (places : List Place) (changed started counted : Bool) (name : List ℕ) (layout : Layout)
-    → Keeps lines catalog places changed started counted → changed ≡ false → after ≡ catalog ++ table name layout ∷ []
-    → Keeps (lines ++ line.Table name layout ∷ []) after places changed started counted
-keeps_table lines catalog after places changed started counted name layout keeps unchanged e =
-    let P : Plan → Type 0 = λ p. KeepsPlan p after places changed started in
+-- without a transformation the declared tables alone are known
+unknown : (some others : List Declared) (change : Option Spec) → change ≡ None → option_map (known_by some) change ≡ option_map (known_by others) change
+unknown some others None e = refl
+unknown some others (Some spec) e = absurd (cc)
+
+pub keeps_table : (lines : List Line) (catalog after : List Declared) (tables : Option (List Declared)) (places : List Place) (started counted ruled : Bool) (name : List ℕ) (layout : Layout)
+    → Keeps lines catalog tables places started counted ruled → is_some (plan_of lines).change ≡ false → after ≡ catalog ++ table name layout ∷ []
+    → Keeps (lines ++ line.Table name layout ∷ []) after tables places started counted ruled
+keeps_table lines catalog after tables places started counted ruled name layout keeps unchanged e =
+    let P : Plan → Type 0 = λ p. KeepsPlan p after tables places started in
     let plan = plan_of lines in
     let k = keeps.plan in
-    let n : plan.change ≡ None = not_some plan.change (sym k.changed_is ∙ unchanged) in
+    let n : plan.change ≡ None = not_some plan.change unchanged in
     record {
       plan = subst P (sym (plan_table lines name layout)) (record {
         sound = sound_table plan (table name layout) n k.sound;
         catalog_is = e ∙ ap (λ t. t ++ table name layout ∷ []) k.catalog_is;
+        known_is = k.known_is ∙ unknown plan.catalog (plan.catalog ++ table name layout ∷ []) plan.change n;
         places_are = λ name2 key. k.places_are name2 key ∙ sym (has_key_still plan.catalog (table name layout ∷ []) name2 key plan.loads k.sound.admitted);
-        changed_is = k.changed_is;
         started_is = k.started_is;
       });
       counted_is = keeps.counted_is ∙ sym (retries_same lines (line.Table name layout) refl);
+      ruled_is = keeps.ruled_is ∙ sym (strategy_same lines (line.Table name layout) refl);
     }
 
 -- ---- rows
@@ -132,7 +145,9 @@ sound_row plan load layout s e fault new = record {
   admitted = all_push (IsAdmitted plan.catalog) plan.loads load s.admitted (record { layout = layout; declared = e; admitted = fault });
   apart = apart_push plan.catalog plan.loads load s.apart new;
   fits = s.fits;
+  blocking = s.blocking;
   clients = s.clients;
+  paces = s.paces;
   few_retries = s.few_retries;
 }
 
@@ -153,13 +168,13 @@ row_key lines catalog name row layout same found =
     let e : schema_of (plan_of lines).catalog name ≡ Some layout = ap (λ c. schema_of c name) (sym same) ∙ found in
     (e, ap (λ o. key_under o row) e)
 
-pub keeps_row : (lines : List Line) (catalog : List Declared) (places after : List Place) (changed started counted : Bool) (name : List ℕ) (row : List Value) (place : Place) (layout : Layout)
-    → Keeps lines catalog places changed started counted → schema_of catalog name ≡ Some layout → row_fault layout row ≡ None
+pub keeps_row : (lines : List Line) (catalog : List Declared) (tables : Option (List Declared)) (places after : List Place) (started counted ruled : Bool) (name : List ℕ) (row : List Value) (place : Place) (layout : Layout)
+    → Keeps lines catalog tables places started counted ruled → schema_of catalog name ≡ Some layout → row_fault layout row ≡ None
     → place.table ≡ name → place.key ≡ key_of layout row → is_among places place.table place.key ≡ false
     → ((other : List ℕ) (key : List Value) → is_among after other key ≡ cond (is_place place.table place.key other key) true (is_among places other key))
-    → Keeps (lines ++ line.Row name row ∷ []) catalog after changed started counted
-keeps_row lines catalog places after changed started counted name row place layout keeps found fault named keyed new updates =
-    let P : Plan → Type 0 = λ p. KeepsPlan p catalog after changed started in
+    → Keeps (lines ++ line.Row name row ∷ []) catalog tables after started counted ruled
+keeps_row lines catalog tables places after started counted ruled name row place layout keeps found fault named keyed new updates =
+    let P : Plan → Type 0 = λ p. KeepsPlan p catalog tables after started in
     let plan = plan_of lines in
     let k = keeps.plan in
     let load : Load = record { table = name; row = row } in
@@ -171,18 +186,19 @@ keeps_row lines catalog places after changed started counted name row place layo
       plan = subst P (sym (plan_row lines name row)) (record {
         sound = sound_row plan load layout k.sound r.0 fault apart;
         catalog_is = k.catalog_is;
+        known_is = k.known_is;
         places_are = λ other key. updates other key ∙ (λ i. cond (is_place (named i) ((sym at) i) other key) true (k.places_are other key i)) ∙ sym (key_push plan.catalog plan.loads load other key);
-        changed_is = k.changed_is;
         started_is = k.started_is;
       });
       counted_is = keeps.counted_is ∙ sym (retries_same lines (line.Row name row) refl);
+      ruled_is = keeps.ruled_is ∙ sym (strategy_same lines (line.Row name row) refl);
     }
 
 -- a row that its table admits is accepted where its key is new
-pub accepts_row : (lines : List Line) (catalog : List Declared) (places : List Place) (changed started counted : Bool) (name : List ℕ) (row : List Value) (place : Place) (layout : Layout)
-    → Keeps lines catalog places changed started counted → started ≡ false → schema_of catalog name ≡ Some layout → row_fault layout row ≡ None → place.table ≡ name → place.key ≡ key_of layout row
+pub accepts_row : (lines : List Line) (catalog : List Declared) (tables : Option (List Declared)) (places : List Place) (started counted ruled : Bool) (name : List ℕ) (row : List Value) (place : Place) (layout : Layout)
+    → Keeps lines catalog tables places started counted ruled → started ≡ false → schema_of catalog name ≡ Some layout → row_fault layout row ≡ None → place.table ≡ name → place.key ≡ key_of layout row
     → accepts lines (line.Row name row) ≡ not (is_among places place.table place.key)
-accepts_row lines catalog places changed started counted name row place layout keeps unstarted found fault named keyed =
+accepts_row lines catalog tables places started counted ruled name row place layout keeps unstarted found fault named keyed =
     let plan = plan_of lines in
     let k = keeps.plan in
     let load : Load = record { table = name; row = row } in
@@ -228,49 +244,94 @@ among_more places after place updates table key =
 
 -- ---- the transformation
 
-pub keeps_change : (lines : List Line) (catalog : List Declared) (places : List Place) (changed started counted : Bool) (spec : Spec)
-    → Keeps lines catalog places changed started counted → changed ≡ false → IsShaped spec → is_some (spec_fault catalog spec) ≡ false
-    → Keeps (lines ++ line.Change spec ∷ []) catalog places true started counted
-keeps_change lines catalog places changed started counted spec keeps unchanged shaped fault =
-    let P : Plan → Type 0 = λ p. KeepsPlan p catalog places true started in
+sound_change : (plan : Plan) (spec : Spec) → IsSound plan → IsShaped spec → spec_fault plan.catalog spec ≡ None → IsSound (record plan { change = Some spec })
+sound_change plan spec s shaped checked = record {
+  admitted = s.admitted;
+  apart = s.apart;
+  fits = record { shaped = shaped; checked = checked };
+  blocking = s.blocking;
+  clients = s.clients;
+  paces = record { few = s.paces.few; changed = λ none. absurd (cc) };
+  few_retries = s.few_retries;
+}
+
+pub keeps_change : (lines : List Line) (catalog : List Declared) (tables : Option (List Declared)) (places : List Place) (started counted ruled : Bool) (spec : Spec)
+    → Keeps lines catalog tables places started counted ruled → is_some (plan_of lines).change ≡ false → IsShaped spec → is_some (spec_fault catalog spec) ≡ false
+    → Keeps (lines ++ line.Change spec ∷ []) catalog (Some (known_by catalog spec)) places started counted ruled
+keeps_change lines catalog tables places started counted ruled spec keeps unchanged shaped fault =
+    let P : Plan → Type 0 = λ p. KeepsPlan p catalog (Some (known_by catalog spec)) places started in
     let plan = plan_of lines in
     let k = keeps.plan in
     let checked : spec_fault plan.catalog spec ≡ None = not_some (spec_fault plan.catalog spec) (ap (λ c. is_some (spec_fault c spec)) (sym k.catalog_is) ∙ fault) in
     record {
-      plan = subst P (sym (plan_change lines spec (sym k.changed_is ∙ unchanged))) (record {
-        sound = record { admitted = k.sound.admitted; apart = k.sound.apart; fits = record { shaped = shaped; checked = checked }; clients = k.sound.clients; few_retries = k.sound.few_retries };
+      plan = subst P (sym (plan_change lines spec unchanged)) (record {
+        sound = sound_change plan spec k.sound shaped checked;
         catalog_is = k.catalog_is;
+        known_is = ap (λ c. Some (known_by c spec)) k.catalog_is;
         places_are = k.places_are;
-        changed_is = refl;
         started_is = k.started_is;
       });
       counted_is = keeps.counted_is ∙ sym (retries_same lines (line.Change spec) refl);
+      ruled_is = keeps.ruled_is ∙ sym (strategy_same lines (line.Change spec) refl);
     }
 
--- ---- repeats
+-- ---- repeats and the strategy
 
-pub keeps_retries : (lines : List Line) (catalog : List Declared) (places : List Place) (changed started counted : Bool) (n : ℕ)
-    → Keeps lines catalog places changed started counted → counted ≡ false → n ≤ 8 → Keeps (lines ++ line.Retries n ∷ []) catalog places changed started true
-keeps_retries lines catalog places changed started counted n keeps uncounted few =
-    let P : Plan → Type 0 = λ p. KeepsPlan p catalog places changed started in
+pub keeps_retries : (lines : List Line) (catalog : List Declared) (tables : Option (List Declared)) (places : List Place) (started counted ruled : Bool) (n : ℕ)
+    → Keeps lines catalog tables places started counted ruled → counted ≡ false → n ≤ 8 → Keeps (lines ++ line.Retries n ∷ []) catalog tables places started true ruled
+keeps_retries lines catalog tables places started counted ruled n keeps uncounted few =
+    let P : Plan → Type 0 = λ p. KeepsPlan p catalog tables places started in
     let k = keeps.plan in
+    let s = k.sound in
     let none : has_retries lines ≡ false = sym keeps.counted_is ∙ uncounted in
     record {
       plan = subst P (sym (plan_retries lines n none)) (record {
-        sound = record { admitted = k.sound.admitted; apart = k.sound.apart; fits = k.sound.fits; clients = k.sound.clients; few_retries = few };
+        sound = record { admitted = s.admitted; apart = s.apart; fits = s.fits; blocking = s.blocking; clients = s.clients; paces = s.paces; few_retries = few };
         catalog_is = k.catalog_is;
+        known_is = k.known_is;
         places_are = k.places_are;
-        changed_is = k.changed_is;
         started_is = k.started_is;
       });
       counted_is = sym (retries_more lines n none);
+      ruled_is = keeps.ruled_is ∙ sym (strategy_same lines (line.Retries n) refl);
     }
 
--- ---- clients
+blocks : (s : Strategy) → is_blocking s ≡ true → s ≡ Blocking
+blocks Blocking e = refl
+blocks NonBlockingAbort e = absurd (cc)
+blocks NonBlockingCommit e = absurd (cc)
 
-started_push : (lines : List Asked) (asked : Asked) → true ≡ not (length (lines ++ asked ∷ []) == 0)
-started_push [] asked = refl
-started_push (l ∷ lines) asked = let some : (length (l ∷ (lines ++ asked ∷ [])) == 0) ≡ false = grind (arith, nat_tests) in rw some refl
+pub keeps_strategy : (lines : List Line) (catalog : List Declared) (tables : Option (List Declared)) (places : List Place) (started counted ruled : Bool) (strategy : Strategy)
+    → Keeps lines catalog tables places started counted ruled → ruled ≡ false → is_blocking strategy ≡ true → Keeps (lines ++ line.Strategy strategy ∷ []) catalog tables places started counted true
+keeps_strategy lines catalog tables places started counted ruled strategy keeps unruled is =
+    let P : Plan → Type 0 = λ p. KeepsPlan p catalog tables places started in
+    let k = keeps.plan in
+    let s = k.sound in
+    let none : has_strategy lines ≡ false = sym keeps.ruled_is ∙ unruled in
+    record {
+      plan = subst P (sym (plan_strategy lines strategy none)) (record {
+        sound = record { admitted = s.admitted; apart = s.apart; fits = s.fits; blocking = blocks strategy is; clients = s.clients; paces = s.paces; few_retries = s.few_retries };
+        catalog_is = k.catalog_is;
+        known_is = k.known_is;
+        places_are = k.places_are;
+        started_is = k.started_is;
+      });
+      counted_is = keeps.counted_is ∙ sym (retries_same lines (line.Strategy strategy) refl);
+      ruled_is = sym (strategy_more lines strategy none);
+    }
+
+-- ---- steps
+
+-- behind a client's line declarations are over
+started_client : (lines : List Asked) (asked : Asked) (paces : List Pace) → true ≡ not (length (lines ++ asked ∷ []) == 0 && length paces == 0)
+started_client [] asked paces = refl
+started_client (l ∷ lines) asked paces = let some : (length (l ∷ (lines ++ asked ∷ [])) == 0) ≡ false = grind (arith, nat_tests) in rw some refl
+
+-- behind a line of the propagator too
+started_pace : (none : Bool) (paces : List Pace) (pace : Pace) → true ≡ not (none && length (paces ++ pace ∷ []) == 0)
+started_pace false paces pace = refl
+started_pace true [] pace = refl
+started_pace true (p ∷ paces) pace = let some : (length (p ∷ (paces ++ pace ∷ [])) == 0) ≡ false = grind (arith, nat_tests) in rw some refl
 
 clients_are : (place n : ℕ) (what : What) → is_client n ≡ true → IsClients (asked place n what)
 clients_are place n what e = by (nat_le 1 n) (nat_le n 8) refl refl e
@@ -280,20 +341,46 @@ clients_are place n what e = by (nat_le 1 n) (nat_le n 8) refl refl e
     by true false f g e = absurd (cc)
     by false high f g e = absurd (cc)
 
-pub keeps_client : (lines : List Line) (catalog : List Declared) (places : List Place) (changed started counted : Bool) (n : ℕ) (what : What)
-    → Keeps lines catalog places changed started counted → is_client n ≡ true → Keeps (lines ++ line.Client n what ∷ []) catalog places changed true counted
-keeps_client lines catalog places changed started counted n what keeps is =
-    let P : Plan → Type 0 = λ p. KeepsPlan p catalog places changed true in
+pub keeps_client : (lines : List Line) (catalog : List Declared) (tables : Option (List Declared)) (places : List Place) (started counted ruled : Bool) (n : ℕ) (what : What)
+    → Keeps lines catalog tables places started counted ruled → is_client n ≡ true → Keeps (lines ++ line.Client n what ∷ []) catalog tables places true counted ruled
+keeps_client lines catalog tables places started counted ruled n what keeps is =
+    let P : Plan → Type 0 = λ p. KeepsPlan p catalog tables places true in
     let plan = plan_of lines in
     let k = keeps.plan in
+    let s = k.sound in
     let new = asked (1 + length lines) n what in
     record {
       plan = subst P (sym (plan_client lines n what)) (record {
-        sound = record { admitted = k.sound.admitted; apart = k.sound.apart; fits = k.sound.fits; clients = all_push IsClients plan.lines new k.sound.clients (clients_are (1 + length lines) n what is); few_retries = k.sound.few_retries };
+        sound = record { admitted = s.admitted; apart = s.apart; fits = s.fits; blocking = s.blocking; clients = all_push IsClients plan.lines new s.clients (clients_are (1 + length lines) n what is); paces = s.paces; few_retries = s.few_retries };
         catalog_is = k.catalog_is;
+        known_is = k.known_is;
         places_are = k.places_are;
-        changed_is = k.changed_is;
-        started_is = started_push plan.lines new;
+        started_is = started_client plan.lines new plan.paces;
       });
       counted_is = keeps.counted_is ∙ sym (retries_same lines (line.Client n what) refl);
+      ruled_is = keeps.ruled_is ∙ sym (strategy_same lines (line.Client n what) refl);
     }
+
+pub keeps_pace : (lines : List Line) (catalog : List Declared) (tables : Option (List Declared)) (places : List Place) (started counted ruled : Bool) (what : PropLine)
+    → Keeps lines catalog tables places started counted ruled → is_some (plan_of lines).change ≡ true → IsPace what → Keeps (lines ++ line.Pace what ∷ []) catalog tables places true counted ruled
+keeps_pace lines catalog tables places started counted ruled what keeps changed is =
+    let P : Plan → Type 0 = λ p. KeepsPlan p catalog tables places true in
+    let plan = plan_of lines in
+    let k = keeps.plan in
+    let s = k.sound in
+    let new = paced (1 + length lines) what in
+    record {
+      plan = subst P (sym (plan_pace lines what)) (record {
+        sound = record { admitted = s.admitted; apart = s.apart; fits = s.fits; blocking = s.blocking; clients = s.clients; paces = record { few = all_push (λ (p : Pace). IsPace p.what) plan.paces new s.paces.few is; changed = λ none. absurd (never plan.change changed none) }; few_retries = s.few_retries };
+        catalog_is = k.catalog_is;
+        known_is = k.known_is;
+        places_are = k.places_are;
+        started_is = started_pace (length plan.lines == 0) plan.paces new;
+      });
+      counted_is = keeps.counted_is ∙ sym (retries_same lines (line.Pace what) refl);
+      ruled_is = keeps.ruled_is ∙ sym (strategy_same lines (line.Pace what) refl);
+    }
+  where
+    never : (change : Option Spec) → is_some change ≡ true → change ≡ None → ⊥
+    never None e f = absurd (cc)
+    never (Some spec) e f = absurd (cc)

@@ -11,13 +11,12 @@ use Rattle.sx_log.specs.declared.record.Load.{Load}
 use Rattle.sx_ops.specs.declared.spec.Spec.{Spec}
 use Rattle.sx_ops.specs.declared.spec.Spec.TheVariants.{Join, Split, Part, Union}
 use Rattle.sx_ops.specs.Checks.{IsPart}
-use Rattle.sx_model.specs.Schedules.{Line as Asked}
 use Rattle.sx_lines.specs.declared.line.Line.{Line}
 use Rattle.sx_lines.specs.declared.line.Line.TheVariants as line
 use Rattle.sx_lines.specs.Lines.{text_lines, is_passed_over, when}
 use Rattle.sx_lines.specs.Forms.{line_of}
 use Rattle.sx_lines.specs.Printing.{HasText}
-use Rattle.sx_script.specs.Plans.{plan_of, load_of, asked_at, asked_from, has_one_test, accepts}
+use Rattle.sx_script.specs.Plans.{plan_of, known, load_of, asked_at, pace_at, from_place, is_shaped, accepts}
 use Rattle.sx_script.specs.Reading.{item_in, line_in, lines_read, script_read}
 use Rattle.sx_script.specs.Sound.{IsSound, IsRunnable}
 
@@ -63,11 +62,11 @@ map_short : {A B : Type 0} (f : A → Option B) (xs : List A) → length (filter
 map_short f [] = omega arith
 map_short f (x ∷ xs) = one_short f xs (f x) (map_short f xs)
 
-asked_short : (place : ℕ) (lines : List Line) → length (asked_from place lines) ≤ length lines
-asked_short place [] = omega arith
-asked_short place (l ∷ lines) = by (asked_at place l) (asked_short (place + 1) lines)
+placed_short : {A : Type 0} (shows : ℕ → Line → Option A) (place : ℕ) (lines : List Line) → length (from_place shows place lines) ≤ length lines
+placed_short {A = A} shows place [] = omega arith
+placed_short {A = A} shows place (l ∷ lines) = by (shows place l) (placed_short shows (place + 1) lines)
   where
-    by : (o : Option Asked) → length (asked_from (place + 1) lines) ≤ length lines → length (cons_option o (asked_from (place + 1) lines)) ≤ suc (length lines)
+    by : (o : Option A) → length (from_place shows (place + 1) lines) ≤ length lines → length (cons_option o (from_place shows (place + 1) lines)) ≤ suc (length lines)
     by None h = omega arith
     by (Some x) h = omega arith
 
@@ -82,28 +81,32 @@ filter_short p (x ∷ xs) = kept_short p x xs (p x) (filter_short p xs)
 pub runnable : (lines : List Line) → length lines ≤ 20000 → IsSound (plan_of lines) → IsRunnable (plan_of lines)
 runnable lines few s =
     let loads = map_short load_of lines in
-    let asked = asked_short 1 lines in
+    let asked = placed_short asked_at 1 lines in
+    let paces = placed_short pace_at 1 lines in
     record {
       loads = record { admitted = s.admitted; apart = s.apart; few = λ table. let into = filter_short (λ (load : Load). same_name load.table table) (plan_of lines).loads in omega arith };
       fits = s.fits;
+      blocking = s.blocking;
       clients = s.clients;
       few = omega arith;
+      paces = s.paces;
+      few_paces = omega arith;
       few_retries = s.few_retries;
     }
 
 -- ---- lines have texts
 
-one_test_part : (spec : Spec) → has_one_test spec ≡ true → IsPart spec
-one_test_part (Part table tests passing failing) e = tt
-one_test_part (Join left right on_left on_right into) e = absurd (cc)
-one_test_part (Split table by dep rest dependent) e = absurd (cc)
-one_test_part (Union left right into) e = absurd (cc)
+shaped_part : (spec : Spec) → is_shaped spec ≡ true → IsPart spec
+shaped_part (Part table tests passing failing) e = tt
+shaped_part (Join left right on_left on_right into) e = absurd (cc)
+shaped_part (Split table by dep rest dependent) e = absurd (cc)
+shaped_part (Union left right into) e = absurd (cc)
 
 accepted_text : (sofar : List Line) (l : Line) → accepts sofar l ≡ true → HasText l
 accepted_text sofar (line.Table name schema) e = tt
 accepted_text sofar (line.Index table columns) e = tt
 accepted_text sofar (line.Row table row) e = tt
-accepted_text sofar (line.Change spec) e = let one : has_one_test spec ≡ true = grind (arith, common_steps) in one_test_part spec one
+accepted_text sofar (line.Change spec) e = let shaped : is_shaped spec ≡ true = grind (arith, common_steps) in shaped_part spec shaped
 accepted_text sofar (line.Strategy strategy) e = tt
 accepted_text sofar (line.Retries n) e = tt
 accepted_text sofar (line.Client n what) e = tt
@@ -111,7 +114,7 @@ accepted_text sofar (line.Pace pace) e = tt
 
 item_texts : (sofar : List Line) (text : List ℕ) (item : List Line) → item_in sofar text ≡ Some item → AllByRecursion HasText item
 unfolding item_in line_in
-item_texts sofar text item e = by (list_all is_printable text) (is_passed_over text) (line_of (plan_of sofar).catalog text) e
+item_texts sofar text item e = by (list_all is_printable text) (is_passed_over text) (line_of (known (plan_of sofar)) text) e
   where
     one : (l : Line) (t : Bool) → accepts sofar l ≡ t → option_map (λ shown. shown ∷ []) (when t l) ≡ Some item → AllByRecursion HasText item
     one l true a f = let s : l ∷ [] ≡ item = cc in subst (AllByRecursion HasText) s (accepted_text sofar l a, tt)

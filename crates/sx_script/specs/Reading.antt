@@ -5,11 +5,11 @@ use Rattle.sx_values.specs.Texts.{is_printable}
 use Rattle.sx_lines.specs.declared.line.Line.{Line}
 use Rattle.sx_lines.specs.Lines.{◌>>=◌, when, is_passed_over, text_lines}
 use Rattle.sx_lines.specs.Forms.{line_of}
-use Rattle.sx_script.specs.Plans.{plan_of, accepts}
+use Rattle.sx_script.specs.Plans.{plan_of, known, accepts}
 
 -- what a line shows behind the lines so far, if it may follow them
 unfoldable pub line_in : List Line → List ℕ → Option Line
-line_in sofar text = line_of (plan_of sofar).catalog text >>= λ shown. when (accepts sofar shown) shown
+line_in sofar text = line_of (known (plan_of sofar)) text >>= λ shown. when (accepts sofar shown) shown
 
 -- the lines of a text's line: none where it is passed over, or else one
 unfoldable pub item_in : List Line → List ℕ → Option (List Line)

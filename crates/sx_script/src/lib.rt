@@ -5,11 +5,14 @@ mod fault;
 mod parser;
 mod plan;
 mod print;
+#[cfg(test)]
+mod reading_tests;
 mod script;
 #[cfg(test)]
 mod tests;
 
 pub use fault::{ScriptCause, ScriptFault};
+pub use plan::{Pace, Paces};
 pub use print::{print_script, put_script};
 pub use script::{Script, parse_script};
 pub use sx_lines::{Line, PropLine, put_line};

@@ -1,10 +1,17 @@
 // A script while it is read, line by line.
-ghost use Rattle.std.specs.Prelude.{◌≡◌, ◌++◌, ◌∷◌, [], not, is_some, IfOk, option_map};
+ghost use Rattle.std.specs.Prelude.{◌≡◌, ◌++◌, ◌∷◌, [], None, not, is_some, map, IfOk, OnOk, option_map};
 ghost use Rattle.std.specs.Bool.{OnTrue};
+ghost use Rattle.std.specs.List.{list_any};
+ghost use Rattle.sx_values.specs.Layouts.{is_null};
+ghost use Rattle.sx_values.specs.Catalogs.{declared_as};
+ghost use Rattle.sx_ops.specs.declared.spec.Test.{Test as TheTest};
 ghost use Rattle.sx_ops.specs.Checks.{IsShaped, AreTests, spec_fault};
 ghost use Rattle.sx_lines.specs.Lines.{when};
-ghost use Rattle.sx_lines.specs.Forms.{IsFit, IsTableSchema};
-ghost use Rattle.sx_script.specs.Plans.{has_one_test, is_one_test, is_client, accepts};
+ghost use Rattle.sx_sync.specs.Ready.{is_blocking};
+ghost use Rattle.sx_model.specs.Known.{adopted};
+ghost use Rattle.sx_lines.specs.Forms.{IsFit, IsPace, IsTableSchema};
+ghost use Rattle.sx_script.specs.Plans.{plan_of, known_by, known, is_shaped, are_tests, is_client, accepts};
+ghost use Rattle.sx_script.specs.Parsers.{AreNew};
 ghost use Rattle.sx_script.specs.Reading.{item_in, line_in};
 ghost use Rattle.sx_script.specs.Scripts.{IsRead};
 
@@ -12,10 +19,11 @@ use crate::Script;
 use std::alloc::{AllocError, Global};
 use std::collections::HashSet;
 use std::marker::Model;
-use sx_journal::What;
+use sx_journal::{PropLine, What};
 use sx_lines::{Line, are_printable, is_passed_over, line_of};
 use sx_lists::{Copied, List, bytes_of};
-use sx_ops::{Spec, SpecFault, Test};
+use sx_ops::{Spec, SpecFault, Target, Test};
+use sx_sync::Strategy;
 use sx_values::{Catalog, CatalogFault, Key, Name, Row, Schema, Value};
 
 // A key of a table.
@@ -29,15 +37,18 @@ pub(crate) struct Place {
 #[derive(Drop)]
 pub(crate) struct Parser {
     lines: Vec<Line>,
+    // The declared tables.
     catalog: Catalog,
+    // These and the new ones, where there is a transformation.
+    known: Option<Catalog>,
     // Where the loaded rows are.
     places: HashSet<Place>,
-    // Whether there is a transformation.
-    is_changed: bool,
-    // Whether there is a client's line.
+    // Whether there is a step.
     is_started: bool,
     // Whether there is a number of repeats.
     is_counted: bool,
+    // Whether there is a strategy.
+    is_ruled: bool,
 }
 
 impl Model for Parser {
@@ -49,7 +60,7 @@ impl Model for Parser {
 
     ghost view = { λ p. p.lines.items };
 
-    ghost invariant = { λ p. Keeps p.lines.items p.catalog p.places.keys p.is_changed p.is_started p.is_counted };
+    ghost invariant = { λ p. Keeps p.lines.items p.catalog p.known p.places.keys p.is_started p.is_counted p.is_ruled };
 }
 
 impl Parser {
@@ -59,10 +70,11 @@ impl Parser {
         Parser {
             lines: Vec::new(alloc),
             catalog: Catalog::new(alloc),
+            known: None,
             places: HashSet::new(alloc),
-            is_changed: false,
             is_started: false,
             is_counted: false,
+            is_ruled: false,
         }
     }
 
@@ -73,6 +85,23 @@ impl Parser {
     {
         let _tables = self.catalog.tables();
         Script::of_parts(List::from_vec(self.lines), self.catalog)
+    }
+
+    // The tables that a name may mean.
+    fn tables(&self) -> &Catalog
+        ensures { result.now ≡ known (plan_of self.now) }
+    {
+        match &self.known {
+            Some(known) => known,
+            None => &self.catalog,
+        }
+    }
+
+    // Whether there is a transformation.
+    fn is_changed(&self) -> bool
+        ensures { result ≡ is_some (plan_of self.now).change }
+    {
+        self.known.is_some()
     }
 
     // The lines so far with a further text's.
@@ -93,7 +122,7 @@ impl Parser {
     fn with_shown(self, alloc: Global, text: &[u8]) -> Result<Option<Parser>, AllocError>
         ensures { IfOk result (λ parser. parser ≡ option_map (λ line. self ++ line ∷ []) (line_in self text.now)) }
     {
-        match line_of(alloc, &self.catalog, text)? {
+        match line_of(alloc, self.tables(), text)? {
             Some(line) => self.with_line(alloc, line),
             None => Ok(None),
         }
@@ -109,8 +138,10 @@ impl Parser {
             Line::Row { table, row } => self.with_row(alloc, table, row),
             Line::Change { spec } => self.with_change(alloc, spec),
             Line::Retries { n } => self.with_retries(n),
+            Line::Strategy { strategy } => self.with_strategy(strategy),
             Line::Client { n, what } => self.with_client(n, what),
-            Line::Index { .. } | Line::Strategy { .. } | Line::Pace(_) => Ok(None),
+            Line::Pace(pace) => self.with_pace(pace),
+            Line::Index { .. } => Ok(None),
         }
     }
 
@@ -123,7 +154,7 @@ impl Parser {
         requires { IsTableSchema schema }
         ensures { IfOk result (λ parser. parser ≡ when (accepts self (Line.Table name schema)) (self ++ Line.Table name schema ∷ [])) }
     {
-        if self.is_started || self.is_changed {
+        if self.is_started || self.is_changed() {
             return Ok(None);
         }
         match self.catalog.declare(name.copy(alloc)?, schema.copy(alloc)?) {
@@ -164,16 +195,16 @@ impl Parser {
     fn with_change(mut self, alloc: Global, spec: Spec) -> Result<Option<Parser>, AllocError>
         ensures { IfOk result (λ parser. parser ≡ when (accepts self (Line.Change spec)) (self ++ Line.Change spec ∷ [])) }
     {
-        if self.is_started || self.is_changed {
+        if self.is_started || self.is_changed() {
             return Ok(None);
         }
-        if !has_one_test(&spec) {
+        if !is_shaped(&spec) {
             return Ok(None);
         }
         if !fits(alloc, &self.catalog, &spec)? {
             return Ok(None);
         }
-        self.is_changed = true;
+        self.known = Some(known_by(alloc, &self.catalog, &spec)?);
         self.lines.push(Line::Change { spec })?;
         Ok(Some(self))
     }
@@ -189,6 +220,17 @@ impl Parser {
         Ok(Some(self))
     }
 
+    fn with_strategy(mut self, strategy: Strategy) -> Result<Option<Parser>, AllocError>
+        ensures { IfOk result (λ parser. parser ≡ when (accepts self (Line.Strategy strategy)) (self ++ Line.Strategy strategy ∷ [])) }
+    {
+        if self.is_started || self.is_ruled || !is_blocking(strategy) {
+            return Ok(None);
+        }
+        self.is_ruled = true;
+        self.lines.push(Line::Strategy { strategy })?;
+        Ok(Some(self))
+    }
+
     fn with_client(mut self, n: u8, what: What) -> Result<Option<Parser>, AllocError>
         ensures { IfOk result (λ parser. parser ≡ when (accepts self (Line.Client n what)) (self ++ Line.Client n what ∷ [])) }
     {
@@ -197,6 +239,18 @@ impl Parser {
         }
         self.is_started = true;
         self.lines.push(Line::Client { n, what })?;
+        Ok(Some(self))
+    }
+
+    fn with_pace(mut self, pace: PropLine) -> Result<Option<Parser>, AllocError>
+        requires { IsPace pace }
+        ensures { IfOk result (λ parser. parser ≡ when (accepts self (Line.Pace pace)) (self ++ Line.Pace pace ∷ [])) }
+    {
+        if !self.is_changed() {
+            return Ok(None);
+        }
+        self.is_started = true;
+        self.lines.push(Line::Pace(pace))?;
         Ok(Some(self))
     }
 }
@@ -208,10 +262,18 @@ fn is_client(n: u8) -> bool
     1 <= n && n <= 8
 }
 
+// Whether old transactions keep the switch waiting.
+fn is_blocking(strategy: Strategy) -> bool
+    ensures { result ≡ is_blocking strategy }
+{
+    matches!(strategy, Strategy::Blocking)
+}
+
 // Whether a transformation fits the declared tables.
 fn fits(alloc: Global, catalog: &Catalog, spec: &Spec) -> Result<bool, AllocError>
     requires { IsShaped spec.now }
-    ensures { IfOk result (λ fits. fits ≡ not (is_some (spec_fault catalog.now spec.now))) }
+    ensures test { IfOk result (λ fits. fits ≡ not (is_some (spec_fault catalog.now spec.now))) }
+    ensures faultless { IfOk result (λ fits. OnTrue fits (spec_fault catalog.now spec.now ≡ None)) }
 {
     match spec.check(alloc, catalog) {
         Ok(()) => Ok(true),
@@ -220,9 +282,46 @@ fn fits(alloc: Global, catalog: &Catalog, spec: &Spec) -> Result<bool, AllocErro
     }
 }
 
-// Whether a transformation is a horizontal split by one test.
-fn has_one_test(spec: &Spec) -> bool
-    ensures test { result ≡ has_one_test spec.now }
+// The declared tables and the new ones of a transformation that fits them.
+fn known_by(alloc: Global, catalog: &Catalog, spec: &Spec) -> Result<Catalog, AllocError>
+    requires shaped { IsShaped spec.now }
+    requires fits { spec_fault catalog.now spec.now ≡ None }
+    ensures { IfOk result (λ tables. tables ≡ known_by catalog.now spec.now) }
+{
+    let targets = spec.targets(alloc, catalog)?;
+    with_targets(alloc, catalog.copy(alloc)?, targets.as_slice())
+}
+
+// Tables with new ones behind them.
+fn with_targets(
+    alloc: Global,
+    mut tables: Catalog,
+    targets: &[Target],
+) -> Result<Catalog, AllocError>
+    requires { AreNew tables targets.now }
+    ensures { IfOk result (λ all. all ≡ tables ++ map adopted targets.now) }
+{
+    for target in targets {
+        adopt(alloc, &mut tables, target)?;
+    }
+    Ok(tables)
+}
+
+// Puts a new table behind others.
+fn adopt(alloc: Global, tables: &mut Catalog, target: &Target) -> Result<(), AllocError>
+    requires { declared_as tables.old target.now.name ≡ None }
+    ensures { OnOk result (tables.new ≡ tables.old ++ adopted target.now ∷ []) }
+{
+    match tables.adopt(target.name.copy(alloc)?, target.schema.copy(alloc)?) {
+        Ok(()) => Ok(()),
+        Err(CatalogFault::Memory) => Err(AllocError),
+        Err(_) => unreachable!(),
+    }
+}
+
+// Whether a transformation is a horizontal split by one to four tests, none with Null.
+fn is_shaped(spec: &Spec) -> bool
+    ensures test { result ≡ is_shaped spec.now }
     ensures shaped { OnTrue result (IsShaped spec.now) }
 {
     match spec {
@@ -231,18 +330,22 @@ fn has_one_test(spec: &Spec) -> bool
             tests,
             yes: _,
             no: _,
-        } => is_one_test(tests.as_slice()),
+        } => are_tests(tests.as_slice()),
         Spec::Join { .. } | Spec::Split { .. } | Spec::Union { .. } => false,
     }
 }
 
-// Whether this is one test, with a constant other than Null.
-fn is_one_test(tests: &[Test]) -> bool
-    ensures test { result ≡ is_one_test tests.now }
+// Whether these are from one to four tests, none with Null.
+fn are_tests(tests: &[Test]) -> bool
+    ensures test { result ≡ are_tests tests.now }
     ensures are { OnTrue result (AreTests tests.now) }
 {
-    match tests {
-        [test] => !matches!(test.value, Value::Null),
-        _ => false,
-    }
+    1 <= tests.len() && tests.len() <= 4 && !has_null(tests)
+}
+
+// Whether a test is with Null.
+fn has_null(tests: &[Test]) -> bool
+    ensures { result ≡ list_any (λ (test : TheTest). is_null test.value) tests.now }
+{
+    tests.iter().any(|test| matches!(test.value, Value::Null))
 }

@@ -3,14 +3,59 @@ ghost use Rattle.std.specs.Prelude.{◌≡◌, ◌++◌, ◌==◌, ◌<◌, ◌^
 ghost use Rattle.std.specs.List.{cons_option};
 ghost use Rattle.std.specs.Option.{option_copied};
 ghost use Rattle.sx_model.specs.Schedules.{Line as Asked, commands_of};
-ghost use Rattle.sx_script.specs.Plans.{plan_of, load_of, asked_at, client_of};
+ghost use Rattle.sx_script.specs.Plans.{plan_of, load_of, asked_at, pace_at, client_of};
 
 use std::alloc::{AllocError, Global};
-use sx_journal::{Command, Commands};
+use std::marker::Model;
+use sx_journal::{Command, Commands, PropLine};
 use sx_lines::Line;
 use sx_lists::{Copied, List};
 use sx_log::{Load, Loads};
 use sx_ops::Spec;
+use sx_sync::Strategy;
+
+/// A line of the propagator, with its place among the lines of the script.
+#[derive(Debug, Drop)]
+pub struct Pace {
+    line: u64,
+    what: PropLine,
+}
+
+/// Lines of the propagator, in order.
+pub type Paces = List<Pace>;
+
+impl Model for Pace {
+    ghost use Rattle.sx_model.specs.Schedules.{Pace as Planned};
+
+    ghost Value = { Planned };
+
+    ghost view = { λ p. record { line = p.line; what = p.what } };
+}
+
+impl Pace {
+    /// Its place from 1 among all lines of the script.
+    pub fn line(&self) -> u64
+        ensures { result ≡ self.now.line }
+    {
+        self.line
+    }
+
+    /// What the propagator does.
+    pub fn what(&self) -> PropLine
+        ensures { result ≡ self.now.what }
+    {
+        self.what
+    }
+}
+
+impl Copied for Pace {
+    fn copy(&self, _alloc: Global) -> Result<Self, AllocError> {
+        Ok(Pace {
+            line: self.line,
+            what: self.what,
+        })
+    }
+}
 
 // How often a request is repeated where a script doesn't say it.
 const REPEATS: u8 = 8;
@@ -60,6 +105,18 @@ pub(crate) fn retries_of(lines: &[Line]) -> u8
         }
     }
     REPEATS
+}
+
+// How transactions that have touched a source are dealt with at the switch.
+pub(crate) fn strategy_of(lines: &[Line]) -> Strategy
+    ensures { result ≡ (plan_of lines.now).strategy }
+{
+    for line in lines {
+        if let Line::Strategy { strategy } = line {
+            return *strategy;
+        }
+    }
+    Strategy::Blocking
 }
 
 // What a client does, in order, each with its place from 1 among all lines.
@@ -113,6 +170,30 @@ fn put_client(clients: &mut Vec<u8>, line: &Line) -> Result<(), AllocError>
 {
     if let Line::Client { n, what: _ } = line {
         clients.push(*n)?;
+    }
+    Ok(())
+}
+
+// What the propagator does, in order, each with its place from 1 among all lines.
+#[tactic(auto, using(std::proofs::lemmas::Grind::common_steps))]
+pub(crate) fn paces_of(alloc: Global, lines: &[Line]) -> Result<Paces, AllocError>
+    requires { length lines.now < 2 ^ 63 }
+    ensures { IfOk result (λ paces. paces ≡ (plan_of lines.now).paces) }
+{
+    let mut paces = Vec::new(alloc);
+    for (index, line) in lines.iter().enumerate() {
+        put_pace(&mut paces, index as u64 + 1, line)?;
+    }
+    Ok(List::from_vec(paces))
+}
+
+// Puts what the propagator does on the line at this place at the end, if it is a line of the propagator.
+fn put_pace(paces: &mut Vec<Pace>, place: u64, line: &Line) -> Result<(), AllocError>
+    ensures { OnOk result (paces.new.items ≡ paces.old.items ++ cons_option (pace_at place line.now) []) }
+{
+    if let Line::Pace(what) = line {
+        let what = *what;
+        paces.push(Pace { line: place, what })?;
     }
     Ok(())
 }

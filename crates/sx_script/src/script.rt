@@ -11,9 +11,11 @@ ghost use Rattle.sx_script.specs.Scripts.{Reads, IsScript, IsRead};
 ghost use Rattle.sx_script.specs.Sound.{IsRunnable};
 ghost use Rattle.sx_script.specs.Printing.{script_text};
 
-use crate::ScriptFault;
 use crate::parser::Parser;
-use crate::plan::{change_of, clients_of, commands_of, loads_of, retries_of};
+use crate::plan::{
+    change_of, clients_of, commands_of, loads_of, paces_of, retries_of, strategy_of,
+};
+use crate::{Paces, ScriptFault};
 use std::alloc::{AllocError, Global};
 use std::marker::Model;
 use sx_journal::Commands;
@@ -21,6 +23,7 @@ use sx_lines::{Line, next_line};
 use sx_lists::{Copied, List};
 use sx_log::Loads;
 use sx_ops::Spec;
+use sx_sync::Strategy;
 use sx_values::Catalog;
 
 /// A script: its lines, which some bytes are read as.
@@ -104,6 +107,13 @@ impl Script {
         change_of(self.lines.as_slice())
     }
 
+    /// How transactions that have touched a source are dealt with at the switch: they are waited for where the script doesn't say.
+    pub fn strategy(&self) -> Strategy
+        ensures { result ≡ (plan_of self.now).strategy }
+    {
+        strategy_of(self.lines.as_slice())
+    }
+
     /// How often a client repeats a request that was held: 8 times where the script doesn't say.
     pub fn retries(&self) -> u8
         ensures { result ≡ (plan_of self.now).retries }
@@ -123,6 +133,13 @@ impl Script {
         ensures { IfOk result (λ clients. clients ≡ map (λ (l : Asked). l.client) (plan_of self.now).lines) }
     {
         clients_of(alloc, self.lines.as_slice())
+    }
+
+    /// What the propagator does on its lines, in order, each with its place among the lines of the script.
+    pub fn paces(&self, alloc: Global) -> Result<Paces, AllocError>
+        ensures { IfOk result (λ paces. paces ≡ (plan_of self.now).paces) }
+    {
+        paces_of(alloc, self.lines())
     }
 }
 

@@ -7,6 +7,7 @@ use sx_journal::Command;
 use sx_lists::{Copied, List};
 use sx_log::Load;
 use sx_ops::Spec;
+use sx_sync::Strategy;
 use sx_values::Declared;
 
 // Spelled otherwise than it is printed: a comment, an empty line, quotes that aren't needed, no last line feed.
@@ -49,6 +50,45 @@ fn orders_text() -> &'static [u8] {
       c8 commit\n"
 }
 
+// A script whose clients and propagator take turns, spelled otherwise than it is printed.
+fn turns() -> &'static [u8] {
+    b"table t id:int* v:text?\n\
+      change part t if id>=0 and id<100 and v<>'x' and v<'y' into yes no\n\
+      row t 5,a\n\
+      strategy blocking\n\
+      # steps\n\
+      c1 begin\n\
+      p start\n\
+      p scan 64\n\
+      c1 insert yes 7,\"b\"\n\
+      p check\n\
+      c2 read no -7\n\
+      p fetch 256\n\
+      c1 commit\n\
+      p switch"
+}
+
+// The same script as it is printed.
+fn turns_text() -> &'static [u8] {
+    b"table t id:int* v:text?\n\
+      change part t if id>=0 and id<100 and v<>'x' and v<'y' into yes no\n\
+      row t 5,a\n\
+      strategy blocking\n\
+      c1 begin\n\
+      p start\n\
+      p scan 64\n\
+      c1 insert yes 7,b\n\
+      p check\n\
+      c2 read no -7\n\
+      p fetch 256\n\
+      c1 commit\n\
+      p switch\n"
+}
+
+fn read_turns(alloc: Global) -> Result<Script, ScriptFault> {
+    parse_script(alloc, turns())
+}
+
 fn read_orders(alloc: Global) -> Result<Script, ScriptFault> {
     parse_script(alloc, orders())
 }
@@ -78,6 +118,16 @@ fn a_script_is_read_and_printed(rt: HostRuntime) -> Result<(), ScriptFault> {
 #[test]
 fn what_is_printed_is_read_again(rt: HostRuntime) -> Result<(), ScriptFault> {
     assert_printed(&rt, rt.alloc(), orders_text(), orders_text())
+}
+
+#[test]
+fn turns_are_read_and_printed(rt: HostRuntime) -> Result<(), ScriptFault> {
+    assert_printed(&rt, rt.alloc(), turns(), turns_text())
+}
+
+#[test]
+fn printed_turns_are_read_again(rt: HostRuntime) -> Result<(), ScriptFault> {
+    assert_printed(&rt, rt.alloc(), turns_text(), turns_text())
 }
 
 fn put_copy(alloc: Global, out: &mut Vec<u8>, script: &Script) -> Result<(), AllocError> {
@@ -140,6 +190,16 @@ fn tables_are_declared(rt: HostRuntime) -> Result<(), Fail> {
     let mut out = Vec::new(alloc);
     put_catalog(alloc, &mut out, &script)?;
     assert_text(&rt, &out, tables_text());
+    Ok(())
+}
+
+#[test]
+fn new_tables_are_not_declared(rt: HostRuntime) -> Result<(), Fail> {
+    let alloc = rt.alloc();
+    let script = read_turns(alloc)?;
+    let mut out = Vec::new(alloc);
+    put_catalog(alloc, &mut out, &script)?;
+    assert_text(&rt, &out, b"table t id:int* v:text?\n");
     Ok(())
 }
 
@@ -247,6 +307,67 @@ fn each_client_line_has_its_client(rt: HostRuntime) -> Result<(), Fail> {
     Ok(())
 }
 
+// Puts what the propagator does, and the place of each of its lines.
+fn put_paces(
+    alloc: Global,
+    out: &mut Vec<u8>,
+    places: &mut Vec<u64>,
+    paces: &[Pace],
+) -> Result<(), AllocError> {
+    for pace in paces {
+        put_ended(alloc, out, &Line::Pace(pace.what()))?;
+        places.push(pace.line())?;
+    }
+    Ok(())
+}
+
+#[test]
+fn the_propagator_has_its_lines_and_their_places(rt: HostRuntime) -> Result<(), Fail> {
+    let alloc = rt.alloc();
+    let paces = read_turns(alloc)?.paces(alloc)?.copy(alloc)?;
+    let mut out = Vec::new(alloc);
+    let mut places = Vec::new(alloc);
+    put_paces(alloc, &mut out, &mut places, paces.as_slice())?;
+    assert_text(&rt, &out, paces_text());
+    assert_eq!(rt; places.as_slice(), [6, 7, 9, 11, 13].as_slice());
+    Ok(())
+}
+
+fn paces_text() -> &'static [u8] {
+    b"p start\n\
+      p scan 64\n\
+      p check\n\
+      p fetch 256\n\
+      p switch\n"
+}
+
+#[test]
+fn lines_of_the_propagator_take_places_of_clients_lines(rt: HostRuntime) -> Result<(), Fail> {
+    let alloc = rt.alloc();
+    let commands = read_turns(alloc)?.commands_of(alloc, 1)?;
+    let mut places = Vec::new(alloc);
+    put_places(&mut places, commands.as_slice())?;
+    assert_eq!(rt; places.as_slice(), [5, 8, 12].as_slice());
+    Ok(())
+}
+
+#[test]
+fn a_script_without_lines_of_the_propagator_has_none(rt: HostRuntime) -> Result<(), Fail> {
+    let alloc = rt.alloc();
+    let paces = read_orders(alloc)?.paces(alloc)?;
+    assert!(rt; paces.is_empty());
+    Ok(())
+}
+
+#[test]
+fn the_switch_waits_whether_a_script_says_so_or_not(rt: HostRuntime) -> Result<(), ScriptFault> {
+    let said = read_turns(rt.alloc())?;
+    assert_eq!(rt; said.strategy(), Strategy::Blocking);
+    let unsaid = read_orders(rt.alloc())?;
+    assert_eq!(rt; unsaid.strategy(), Strategy::Blocking);
+    Ok(())
+}
+
 fn assert_retries(rt: &impl Abort, alloc: Global, text: &[u8], n: u8) -> Result<(), ScriptFault> {
     let script = parse_script(alloc, text)?;
     assert_eq!(rt; script.retries(), n);
@@ -318,263 +439,5 @@ fn the_last_place_is_the_number_of_lines(rt: HostRuntime) -> Result<(), ScriptFa
     assert!(rt; script.at(15).is_some());
     assert!(rt; script.at(16).is_none());
     assert!(rt; !script.is_empty());
-    Ok(())
-}
-
-fn assert_read(rt: &impl Abort, alloc: Global, text: &[u8]) {
-    let read = parse_script(alloc, text);
-    assert!(rt; read.is_ok());
-}
-
-#[test]
-fn an_empty_text_is_a_script(rt: HostRuntime) {
-    assert_read(&rt, rt.alloc(), b"");
-}
-
-#[test]
-fn a_row_may_stand_behind_the_change(rt: HostRuntime) {
-    assert_read(
-        &rt,
-        rt.alloc(),
-        b"table t id:int*\nchange part t if id>=0 into a b\nrow t 1",
-    );
-}
-
-#[test]
-fn repeats_may_stand_behind_the_change(rt: HostRuntime) {
-    assert_read(
-        &rt,
-        rt.alloc(),
-        b"table t id:int*\nchange part t if id>=0 into a b\nretries 8\nc1 begin",
-    );
-}
-
-#[test]
-fn a_clients_lines_may_stand_in_any_order(rt: HostRuntime) {
-    assert_read(
-        &rt,
-        rt.alloc(),
-        b"table t id:int*\nc3 commit\nc3 insert t 1\nc3 abort\nc4 begin",
-    );
-}
-
-// Declares sixteen tables, and goes on by these lines.
-fn with_sixteen_tables(alloc: Global, rest: &[u8]) -> Result<Vec<u8>, AllocError> {
-    let mut text = Vec::from_slice(alloc, sixteen_tables())?;
-    text.extend_from_slice(rest)?;
-    Ok(text)
-}
-
-fn sixteen_tables() -> &'static [u8] {
-    b"table a k:int*\n\
-      table b k:int*\n\
-      table c k:int*\n\
-      table d k:int*\n\
-      table e k:int*\n\
-      table f k:int*\n\
-      table g k:int*\n\
-      table h k:int*\n\
-      table i k:int*\n\
-      table j k:int*\n\
-      table k k:int*\n\
-      table l k:int*\n\
-      table m k:int*\n\
-      table n k:int*\n\
-      table o k:int*\n\
-      table p k:int*\n"
-}
-
-#[test]
-fn sixteen_tables_may_have_rows_of_one_key(rt: HostRuntime) -> Result<(), AllocError> {
-    let text = with_sixteen_tables(rt.alloc(), b"row a 1\nrow p 1\nrow a 2")?;
-    assert_read(&rt, rt.alloc(), &text);
-    Ok(())
-}
-
-#[test]
-fn a_seventeenth_table_is_refused(rt: HostRuntime) -> Result<(), AllocError> {
-    let text = with_sixteen_tables(rt.alloc(), b"table q k:int*")?;
-    assert_refused(&rt, rt.alloc(), &text);
-    Ok(())
-}
-
-const LATER: ScriptFault = ScriptFault::Bad {
-    line: 0,
-    cause: ScriptCause::Later,
-};
-
-fn assert_refused(rt: &impl Abort, alloc: Global, text: &[u8]) {
-    let fault = parse_script(alloc, text).err();
-    assert_eq!(rt; fault, Some(LATER));
-}
-
-#[test]
-fn a_row_without_its_last_field_is_refused(rt: HostRuntime) {
-    assert_refused(&rt, rt.alloc(), b"table t id:int* q:int?\nrow t 1");
-}
-
-#[test]
-fn a_row_with_a_field_too_many_is_refused(rt: HostRuntime) {
-    assert_refused(&rt, rt.alloc(), b"table t id:int* q:int?\nrow t 1,2,3");
-}
-
-#[test]
-fn a_number_with_a_leading_zero_is_refused(rt: HostRuntime) {
-    assert_refused(&rt, rt.alloc(), b"table t id:int* q:int?\nrow t 1,05");
-}
-
-#[test]
-fn a_null_where_none_may_be_is_refused(rt: HostRuntime) {
-    assert_refused(&rt, rt.alloc(), b"table t id:int* q:int\nrow t 1,NULL");
-}
-
-#[test]
-fn a_key_that_stands_twice_is_refused(rt: HostRuntime) {
-    assert_refused(
-        &rt,
-        rt.alloc(),
-        b"table t id:int* q:int\nrow t 1,2\nrow t 1,3",
-    );
-}
-
-#[test]
-fn a_key_that_stands_twice_with_another_table_between_is_refused(rt: HostRuntime) {
-    assert_refused(
-        &rt,
-        rt.alloc(),
-        b"table t id:int*\nrow t 1\ntable u id:int*\nrow u 1\nrow t 1",
-    );
-}
-
-#[test]
-fn a_table_without_a_key_is_refused(rt: HostRuntime) {
-    assert_refused(&rt, rt.alloc(), b"table t id:int");
-}
-
-#[test]
-fn a_table_that_is_declared_twice_is_refused(rt: HostRuntime) {
-    assert_refused(&rt, rt.alloc(), b"table t id:int*\ntable t id:int*");
-}
-
-#[test]
-fn a_table_behind_the_change_is_refused(rt: HostRuntime) {
-    assert_refused(
-        &rt,
-        rt.alloc(),
-        b"table t id:int*\nchange part t if id>=0 into a b\ntable u id:int*",
-    );
-}
-
-#[test]
-fn a_table_behind_a_clients_line_is_refused(rt: HostRuntime) {
-    assert_refused(&rt, rt.alloc(), b"c1 begin\ntable t id:int*");
-}
-
-#[test]
-fn a_row_of_no_table_is_refused(rt: HostRuntime) {
-    assert_refused(&rt, rt.alloc(), b"table t id:int*\nrow u 1");
-}
-
-#[test]
-fn a_row_before_its_table_is_refused(rt: HostRuntime) {
-    assert_refused(&rt, rt.alloc(), b"row t 1\ntable t id:int*");
-}
-
-#[test]
-fn a_read_of_no_table_is_refused(rt: HostRuntime) {
-    assert_refused(&rt, rt.alloc(), b"c1 read t 1");
-}
-
-#[test]
-fn a_constant_of_another_kind_is_refused(rt: HostRuntime) {
-    assert_refused(
-        &rt,
-        rt.alloc(),
-        b"table t id:int*\nchange part t if id<'a' into low high",
-    );
-}
-
-#[test]
-fn a_second_change_is_refused(rt: HostRuntime) {
-    assert_refused(
-        &rt,
-        rt.alloc(),
-        b"table t id:int*\nchange part t if id<1 into a b\nchange part t if id<2 into c d",
-    );
-}
-
-#[test]
-fn a_change_behind_a_clients_line_is_refused(rt: HostRuntime) {
-    assert_refused(
-        &rt,
-        rt.alloc(),
-        b"table t id:int*\nc1 begin\nchange part t if id<1 into a b",
-    );
-}
-
-#[test]
-fn a_row_behind_a_clients_line_is_refused(rt: HostRuntime) {
-    assert_refused(
-        &rt,
-        rt.alloc(),
-        b"table t id:int*\nc1 begin\nrow t 1\nc1 commit",
-    );
-}
-
-#[test]
-fn nine_repeats_are_refused(rt: HostRuntime) {
-    assert_refused(&rt, rt.alloc(), b"retries 9");
-}
-
-#[test]
-fn repeats_that_are_said_twice_are_refused(rt: HostRuntime) {
-    assert_refused(&rt, rt.alloc(), b"retries 1\nretries 1");
-}
-
-#[test]
-fn repeats_behind_a_clients_line_are_refused(rt: HostRuntime) {
-    assert_refused(&rt, rt.alloc(), b"c1 begin\nretries 1");
-}
-
-#[test]
-fn a_client_0_is_refused(rt: HostRuntime) {
-    assert_refused(&rt, rt.alloc(), b"c0 begin");
-}
-
-#[test]
-fn a_client_9_is_refused(rt: HostRuntime) {
-    assert_refused(&rt, rt.alloc(), b"c9 begin");
-}
-
-#[test]
-fn a_key_of_another_width_is_refused(rt: HostRuntime) {
-    assert_refused(&rt, rt.alloc(), b"table t id:int*\nc1 read t 1,2");
-}
-
-#[test]
-fn a_byte_that_is_not_printable_is_refused(rt: HostRuntime) {
-    assert_refused(&rt, rt.alloc(), b"# a tab\there");
-}
-
-fn assert_copied(rt: &impl Abort, alloc: Global, fault: ScriptFault) -> Result<(), AllocError> {
-    let copied = fault.copy(alloc)?;
-    assert_eq!(rt; copied, fault);
-    Ok(())
-}
-
-#[test]
-fn want_of_memory_is_copied(rt: HostRuntime) -> Result<(), AllocError> {
-    assert_copied(&rt, rt.alloc(), ScriptFault::Memory)
-}
-
-#[test]
-fn a_fault_of_the_whole_is_copied(rt: HostRuntime) -> Result<(), AllocError> {
-    assert_copied(&rt, rt.alloc(), LATER)
-}
-
-#[test]
-fn causes_are_copied(rt: HostRuntime) -> Result<(), AllocError> {
-    let copied = ScriptCause::Key.copy(rt.alloc())?;
-    assert_eq!(rt; copied, ScriptCause::Key);
     Ok(())
 }

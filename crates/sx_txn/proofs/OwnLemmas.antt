@@ -8,7 +8,7 @@ use Rattle.sx_values.proofs.KeyLaws.{same_name_tells}
 use Rattle.sx_log.specs.declared.record.Rec.{Rec}
 use Rattle.sx_log.specs.State.{Stored, state_at, row_left}
 use Rattle.sx_heap.specs.declared.tables.NamedTable.{NamedTable}
-use Rattle.sx_heap.specs.Relations.{Relation, row_at}
+use Rattle.sx_heap.specs.Relations.{Relation}
 use Rattle.sx_heap.specs.NamedTables.{table_named}
 use Rattle.sx_txn.specs.Managed.{Shape, Managed, OwnMeets, AreOwn, schema_in, shape_of, row_in, row_now}
 

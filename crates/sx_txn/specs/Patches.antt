@@ -12,8 +12,13 @@ use Rattle.sx_heap.specs.declared.tables.NamedTable.{NamedTable}
 use Rattle.sx_heap.specs.Relations.{Relation}
 use Rattle.sx_txn.specs.declared.patch.Patch.{Patch}
 use Rattle.sx_txn.specs.declared.answers.Change.{Change}
-use Rattle.sx_txn.specs.Managed.{Shape, Managed, schema_in, row_in, row_now}
-use Rattle.sx_txn.specs.Turns.{key_of_change, SetsRowAt}
+use Rattle.sx_locks.specs.declared.mode.Asked.{Asked}
+use Rattle.sx_locks.specs.declared.mode.Asked.TheVariants.{Granted, Held}
+use Rattle.sx_locks.specs.declared.mode.Mode.TheVariants.{Exclusive}
+use Rattle.sx_txn.specs.declared.answers.TxnWrite.{TxnWrite}
+use Rattle.sx_txn.specs.declared.answers.TxnWrite.TheVariants as write
+use Rattle.sx_txn.specs.Managed.{Shape, Managed, SameTables, schema_in, row_in, row_now}
+use Rattle.sx_txn.specs.Turns.{Hinders, Writes, key_of_change, SetsRowAt}
 use Rattle.sx_log.specs.Images.{FitsImage}
 
 -- the record of a transaction's write that makes a change
@@ -60,6 +65,18 @@ HasImage p = p.before ≡ None → IsSome p.after
 -- the table of the change has its image at its key; all else stays
 abbrev pub Patched : List NamedTable → List NamedTable → Patch → ℕ → Type 0
 Patched old new p lsn = SetsRowAt old new p.table p.key (stored lsn p.after)
+
+-- where the lock is granted the change is made, and else the rows stay
+abbrev pub PutsWhere : List NamedTable → List NamedTable → Patch → ℕ → Asked → Type 0
+PutsWhere old new p lsn Granted = Patched old new p lsn
+PutsWhere old new p lsn (Held by) = SameTables old new
+
+-- what the answer says where a change is to be put: it was made, or another's lock conflicts
+abbrev pub AnswersPut : Managed → Managed → ℕ → Patch → TxnWrite → Type 0
+AnswersPut old new txn p (write.Done lsn) = Writes old new txn p.table p.key p.after lsn
+AnswersPut old new txn p (write.Held by) = Hinders old new txn p.table p.key Exclusive by
+AnswersPut old new txn p write.Exists = ⊥
+AnswersPut old new txn p write.Missing = ⊥
 
 -- this is the key that a change of a table is about
 abbrev pub IsKeyOf : List Shape → List ℕ → Change → List Value → Type 0

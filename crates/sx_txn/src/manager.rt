@@ -148,6 +148,7 @@ impl Manager {
     pub fn new_tables(&self) -> &Tables
         ensures now { result.now ≡ drop self.now.own self.now.tables }
         ensures shapes { map shape_of result.now ≡ drop self.now.own self.now.shapes }
+        ensures meets { OwnMeets self.now }
     {
         self.tables.fresh()
     }

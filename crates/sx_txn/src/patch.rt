@@ -2,11 +2,11 @@
 ghost use Rattle.std.specs.Prelude.{◌≡◌, ◌+◌, ◌≤◌, None, IfOk, OnOk, OnErr, IsOk, IsSome, IfSome, IsSomeAnd};
 ghost use Rattle.sx_heap.specs.Relations.{row_at};
 ghost use Rattle.sx_heap.specs.NamedTables.{AreNamedApart, table_named};
-ghost use Rattle.sx_locks.specs.Locks.{IsLeastOther, LockedSo, SameLocks};
+ghost use Rattle.sx_locks.specs.Locks.{AnswersAsk, SameLocks};
 ghost use Rattle.sx_locks.specs.declared.mode.Mode.TheVariants.{Exclusive};
 ghost use Rattle.sx_txn.specs.Answers.{refusal};
 ghost use Rattle.sx_txn.specs.Turns.{image_of};
-ghost use Rattle.sx_txn.specs.Patches.{write_of, undo_of, HasRow, TakesPatch, HasImage, Patched};
+ghost use Rattle.sx_txn.specs.Patches.{write_of, undo_of, HasRow, TakesPatch, HasImage, Patched, PutsWhere};
 ghost use Rattle.sx_txn.specs.Managed.{SameTables};
 
 use crate::homes::Homes;
@@ -14,7 +14,7 @@ use crate::{Change, TxnWrite};
 use std::alloc::{AllocError, Global};
 use std::sync::ledger::Ledger;
 use sx_lists::Copied;
-use sx_locks::{LockTable, Mode};
+use sx_locks::{Asked, LockTable, Mode};
 use sx_log::{Body, Rec};
 use sx_steps::Steps;
 use sx_values::{Key, Name, Row};
@@ -142,23 +142,8 @@ pub(crate) fn put_image(
     }
 }
 
-// Takes a lock that no other transaction's conflicts with. Want of memory changes no lock.
-pub(crate) fn take_lock(
-    locks: &mut LockTable,
-    txn: u64,
-    table: &Name,
-    key: &Key,
-    mode: Mode,
-) -> Result<(), AllocError>
-    requires { IsLeastOther locks.old txn table.now key.now mode None }
-    ensures ok { OnOk result (LockedSo locks.old locks.new txn table.now key.now mode) }
-    ensures err { OnErr result (SameLocks locks.old locks.new) }
-{
-    locks.grant(txn, table, key, mode)?;
-    Ok(())
-}
-
-// Puts the image of a change at its key and locks it. Want of memory changes nothing.
+// Asks for the lock on the key of a change, and puts the image there. Where another's lock conflicts, or memory wants, nothing
+// changes.
 pub(crate) fn put_locked(
     tables: &mut Homes,
     locks: &mut LockTable,
@@ -166,24 +151,54 @@ pub(crate) fn put_locked(
     patch: &Patch,
     image: Option<Row>,
     lsn: u64,
-) -> Result<(), AllocError>
+) -> Result<Asked, AllocError>
     requires image { image ≡ patch.now.after }
     requires takes { IsSomeAnd (table_named tables.old.all patch.now.table) (TakesPatch patch.now) }
     requires some { HasImage patch.now }
-    requires free { IsLeastOther locks.old txn patch.now.table patch.now.key Exclusive None }
     ensures own { tables.new.own ≡ tables.old.own }
-    ensures rows { OnOk result (Patched tables.old.all tables.new.all patch.now lsn) }
-    ensures locked { OnOk result (LockedSo locks.old locks.new txn patch.now.table patch.now.key Exclusive) }
+    ensures rows { IfOk result (PutsWhere tables.old.all tables.new.all patch.now lsn) }
+    ensures asked { IfOk result (AnswersAsk locks.old locks.new txn patch.now.table patch.now.key Exclusive) }
     ensures same_rows { OnErr result (SameTables tables.old.all tables.new.all) }
     ensures same_locks { OnErr result (SameLocks locks.old locks.new) }
 {
-    if patch.before.is_some() {
-        take_lock(locks, txn, &patch.table, &patch.key, Mode::Exclusive)?;
-        return put_image(tables, patch, image, lsn);
+    if patch.before.is_none() {
+        return put_new(tables, locks, txn, patch, image, lsn);
     }
+    match locks.ask(txn, &patch.table, &patch.key, Mode::Exclusive)? {
+        Asked::Held { by } => Ok(Asked::Held { by }),
+        Asked::Granted => {
+            put_image(tables, patch, image, lsn)?;
+            Ok(Asked::Granted)
+        }
+    }
+}
+
+// The same at a key without a row, where the image goes in first, since that wants memory.
+fn put_new(
+    tables: &mut Homes,
+    locks: &mut LockTable,
+    txn: u64,
+    patch: &Patch,
+    image: Option<Row>,
+    lsn: u64,
+) -> Result<Asked, AllocError>
+    requires image { image ≡ patch.now.after }
+    requires takes { IsSomeAnd (table_named tables.old.all patch.now.table) (TakesPatch patch.now) }
+    requires none { patch.now.before ≡ None }
+    requires some { IsSome patch.now.after }
+    ensures own { tables.new.own ≡ tables.old.own }
+    ensures rows { IfOk result (PutsWhere tables.old.all tables.new.all patch.now lsn) }
+    ensures asked { IfOk result (AnswersAsk locks.old locks.new txn patch.now.table patch.now.key Exclusive) }
+    ensures same_rows { OnErr result (SameTables tables.old.all tables.new.all) }
+    ensures same_locks { OnErr result (SameLocks locks.old locks.new) }
+{
     put_image(tables, patch, image, lsn)?;
-    match take_lock(locks, txn, &patch.table, &patch.key, Mode::Exclusive) {
-        Ok(()) => Ok(()),
+    match locks.ask(txn, &patch.table, &patch.key, Mode::Exclusive) {
+        Ok(Asked::Granted) => Ok(Asked::Granted),
+        Ok(Asked::Held { by }) => {
+            tables.remove(&patch.table, &patch.key)?;
+            Ok(Asked::Held { by })
+        }
         Err(error) => {
             tables.remove(&patch.table, &patch.key)?;
             Err(error)

@@ -6,13 +6,13 @@ ghost use Rattle.sx_txn.specs.Turns.{CanChange, FitsSchema, key_of_change};
 ghost use Rattle.sx_txn.specs.Answers.{AnswersRead, read_of};
 ghost use Rattle.sx_txn.specs.Patches.{IsThere, IsKeyOf};
 
-use crate::patch::{row_there, take_lock};
+use crate::patch::row_there;
 use crate::{Change, Manager, TxnRead};
 use std::alloc::{AllocError, Global};
 use std::sync::ledger::Ledger;
 use sx_heap::Table;
 use sx_lists::Copied;
-use sx_locks::Mode;
+use sx_locks::{Asked, Mode};
 use sx_steps::Steps;
 use sx_values::{Key, Name, Row, Schema};
 
@@ -60,14 +60,11 @@ impl Manager {
         ensures least { steps.old ≤ steps.new }
         ensures most { steps.new ≤ steps.old + 1 }
     {
-        match self.locks.least_holder(txn, table, key, Mode::Shared) {
-            Some(by) => Ok((TxnRead::Held { by }, TxnRead::Held { by })),
-            None => {
-                let row = self.row_found(table, key, steps)?;
-                let told = row.copy(self.alloc)?;
-                take_lock(&mut self.locks, txn, table, key, Mode::Shared)?;
-                Ok((read_of(row), read_of(told)))
-            }
+        let row = self.row_found(table, key, steps)?;
+        let told = row.copy(self.alloc)?;
+        match self.locks.ask(txn, table, key, Mode::Shared)? {
+            Asked::Held { by } => Ok((TxnRead::Held { by }, TxnRead::Held { by })),
+            Asked::Granted => Ok((read_of(row), read_of(told))),
         }
     }
 

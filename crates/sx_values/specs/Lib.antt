@@ -1,4 +1,5 @@
 pub mod Catalogs
+pub mod Kept
 pub mod Layouts
 pub mod Names
 pub mod SchemaFaults

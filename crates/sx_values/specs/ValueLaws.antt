@@ -1,15 +1,17 @@
 -- The order of values is a total order: it compares ranks, then numbers, then texts. Values that tie are one value.
-use Rattle.std.specs.Prelude.{◌≡◌, ℕ, ℤ, List, [], ◌∷◌, IsTrue, Some, true, refl, pos}
+use Rattle.std.specs.Prelude.{◌≡◌, ℕ, ℤ, List, [], ◌∷◌, IsTrue, Some, true, refl, pos, nat_eq}
 use Rattle.std.proofs.Common.{ap, sym, ◌∙◌, true≢false}
 use Rattle.std.specs.Cmp.{IsTotalOrder, IsEquivalence, IsPartialEquivalence, IsPartialOrder, partial_equiv_from_equiv, partial_order_from_total, signed_Decides, total, unsigned_Decides, unsigned_tied}
 use Rattle.std.specs.Ordering.{int_cmp, is_eq, nat_cmp, on, then_cmp, ordering_then}
-use Rattle.std.specs.Cmp.Lexicographic.{slice_cmp}
+use Rattle.std.specs.Cmp.Lexicographic.{slice_cmp, pointwise, same_text}
+use Rattle.std.specs.Hash as fed
+use Rattle.std.specs.Hash.{items_Alike}
 use Rattle.std.proofs.lemmas.Cmp.{nat_cmp_total, int_cmp_total, nat_list_cmp_total, on_total, then_total, eq_by_cmp_equiv}
 use Rattle.std.specs.declared.cmp.Ordering.{Ordering}
 use Rattle.std.specs.declared.cmp.Ordering.TheVariants.{Less, Equal, Greater}
 use Rattle.sx_values.specs.declared.value.Value.{Value}
 use Rattle.sx_values.specs.declared.value.Value.TheVariants.{Null, Int, Text}
-use Rattle.sx_values.specs.Values.{value_cmp, value_eq, value_fed, value_partial_cmp}
+use Rattle.sx_values.specs.Values.{value_cmp, value_eq, value_fed, value_partial_cmp, values_fed}
 
 abbrev rank : Value → ℕ
 rank Null = 0
@@ -108,3 +110,10 @@ tie_of Greater e = absurd (true≢false (sym e))
 -- equal values have equal hashes
 pub equal_values_fed : (v w : Value) → IsTrue (value_eq v w) → value_fed v ≡ value_fed w
 equal_values_fed v w e = ap value_fed (value_tie v w (tie_of (value_cmp v w) e))
+
+-- equal bytes have equal hashes
+pub same_bytes_fed : (s t : List ℕ) → IsTrue (pointwise nat_eq s t) → fed.slice fed.u8 s ≡ fed.slice fed.u8 t
+same_bytes_fed s t e = ap (fed.slice fed.u8) (same_text s t (sym e))
+
+pub same_values_fed : (vs ws : List Value) → IsTrue (pointwise value_eq vs ws) → values_fed vs ≡ values_fed ws
+same_values_fed vs ws e = (items_Alike (record { fed = equal_values_fed })).fed vs ws e

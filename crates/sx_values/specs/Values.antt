@@ -3,7 +3,7 @@ use Rattle.std.specs.Prelude.{List, [], Bool, Option, Some}
 use Rattle.std.specs.Hash as fed
 use Rattle.std.specs.Hash.{HashWrites}
 use Rattle.std.specs.Ordering.{int_cmp, nat_cmp, is_eq}
-use Rattle.std.specs.Cmp.Lexicographic.{slice_cmp}
+use Rattle.std.specs.Cmp.Lexicographic.{slice_cmp, slice_partial_cmp}
 use Rattle.std.specs.declared.cmp.Ordering.{Ordering}
 use Rattle.std.specs.declared.cmp.Ordering.TheVariants.{Less, Equal, Greater}
 use Rattle.sx_values.specs.declared.value.Value.{Value}
@@ -33,6 +33,10 @@ values_cmp = slice_cmp value_cmp
 abbrev pub value_partial_cmp : Value → Value → Option Ordering
 value_partial_cmp v w = Some (value_cmp v w)
 
+-- the same of lists
+abbrev pub values_partial_cmp : List Value → List Value → Option Ordering
+values_partial_cmp = slice_partial_cmp value_partial_cmp
+
 -- whether two lists of values are one, as that order tells
 abbrev pub values_eq : List Value → List Value → Bool
 values_eq vs ws = is_eq (values_cmp vs ws)
@@ -42,3 +46,7 @@ abbrev pub value_fed : Value → HashWrites
 value_fed Null = []
 value_fed (Int i) = fed.i64 i
 value_fed (Text t) = fed.slice fed.u8 t
+
+-- the same of a list of values
+abbrev pub values_fed : List Value → HashWrites
+values_fed values = fed.slice value_fed values

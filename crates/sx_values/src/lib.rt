@@ -4,18 +4,21 @@
 mod catalog;
 mod checks;
 mod faults;
+mod key;
 mod name;
 mod plain;
 mod row;
 mod schema;
+mod shared;
 #[cfg(test)]
 mod tests;
 mod text;
 mod value;
 
 pub use catalog::{Catalog, CatalogFault, Declared};
+pub use key::Key;
 pub use name::{Name, NameFault};
-pub use row::{Key, Row};
+pub use row::Row;
 pub use schema::{BadRow, Column, Kind, Schema, SchemaFault};
 use sx_lists::List;
 pub use text::{Text, TextFault};

@@ -7,11 +7,12 @@ ghost use Rattle.std.specs.Cmp.{partial_equiv_from_equiv};
 ghost use Rattle.std.specs.Cmp.Lexicographic.{pointwise, slice_cmp, nat_list_cmp_total, nat_list_eq_equiv, texts_po, texts_ties};
 ghost use Rattle.sx_values.specs.Texts.{is_name, is_lower, is_name_byte};
 
+use crate::shared::shared_bytes;
 use std::alloc::{AllocError, Global};
 use std::cmp::Ordering;
 use std::marker::Model;
 use std::sync::Arc;
-use sx_lists::{Copied, List, Same, bytes_of};
+use sx_lists::{Copied, List, Same};
 
 /// A lower-case letter followed by up to 31 lower-case letters, digits and underscores. Its copies share its bytes.
 #[derive(Debug, Drop)]
@@ -53,7 +54,7 @@ impl Name {
         if !is_name(bytes) {
             return Err(NameFault::BadName);
         }
-        match shared(alloc, bytes) {
+        match shared_bytes(alloc, bytes) {
             Ok(bytes) => Ok(Name { bytes }),
             Err(_) => Err(NameFault::Memory),
         }
@@ -116,16 +117,6 @@ impl Copied for Name {
 impl Same for Name {
     fn is_same(&self, other: &Self) -> bool {
         (*self.bytes).is_same(&*other.bytes)
-    }
-}
-
-// The bytes, to be shared.
-fn shared(alloc: Global, bytes: &[u8]) -> Result<Arc<List<u8>>, AllocError>
-    ensures { IfOk result (λ shared. shared.value ≡ bytes.now) }
-{
-    match Arc::new(alloc, bytes_of(alloc, bytes)?) {
-        Ok(shared) => Ok(shared),
-        Err(_) => Err(AllocError),
     }
 }
 

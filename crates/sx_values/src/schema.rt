@@ -158,8 +158,7 @@ impl Schema {
         ensures key { IfOk result (λ key. key ≡ key_of self.now row.now) }
         ensures admitted { IfOk result (AdmitsKey self.now) }
     {
-        let values = values_at(alloc, row.as_slice(), self.key.as_slice())?;
-        Ok(Key::from_values(values))
+        key_at(alloc, row.as_slice(), self.key.as_slice())
     }
 
     /// The values of a row at these places, counted from 0.
@@ -168,8 +167,18 @@ impl Schema {
         requires within { All (λ place. place < length self.now.columns) places.now }
         ensures { IfOk result (λ key. key ≡ projected places.now row.now) }
     {
-        let values = values_at(alloc, row.as_slice(), places.as_slice())?;
-        Ok(Key::from_values(values))
+        key_at(alloc, row.as_slice(), places.as_slice())
+    }
+}
+
+// The key of a row's values at these places, counted from 0.
+fn key_at(alloc: Global, row: &[Value], places: &[u64]) -> Result<Key, AllocError>
+    requires { All (λ place. place < length row.now) places.now }
+    ensures { IfOk result (λ key. key ≡ projected places.now row.now) }
+{
+    match places {
+        [place] => Ok(Key::of_one(alloc, row[*place as usize].copy(alloc)?)),
+        places => Ok(Key::from_values(values_at(alloc, row, places)?)),
     }
 }
 

@@ -324,3 +324,24 @@ fn faults_are_copied(rt: HostRuntime) -> Result<(), Fail> {
     assert_eq!(rt; catalog.copy(alloc)?, catalog);
     Ok(())
 }
+
+#[test]
+fn copies_grow_by_themselves(rt: HostRuntime) -> Result<(), Fail> {
+    let alloc = rt.alloc();
+    let mut row = Row::new(alloc);
+    row.push(Value::Int(7))?;
+    let copy = row.copy(alloc)?;
+    let mut grown = copy.copy(alloc)?;
+    grown.push(Value::Null)?;
+    assert!(rt; copy.is_same(&row));
+    assert_eq!(rt; grown.len(), 2);
+    assert!(rt; matches!(grown.at(1), Some(Value::Int(7))));
+    let mut key = Key::new(alloc);
+    key.push(Value::Int(7))?;
+    let mut longer = key.copy(alloc)?;
+    assert!(rt; longer.is_same(&key));
+    longer.push(Value::Int(8))?;
+    assert_eq!(rt; longer.len(), 2);
+    assert!(rt; matches!(longer.at(1), Some(Value::Int(7))));
+    Ok(())
+}

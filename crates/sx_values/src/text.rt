@@ -1,18 +1,27 @@
 // Texts: the bytes of a value of a text column.
 ghost use Rattle.std.specs.Prelude.{◌≡◌, IfOk, ◌==◌, ◌<◌, not, IsTrue, IfSome, length, position};
-ghost use Rattle.std.specs.Cmp.Lexicographic.{pointwise};
+ghost use Rattle.std.specs.Prelude.{Some, nat_eq, refl};
+ghost use Rattle.std.specs.Ordering.{nat_cmp};
+ghost use Rattle.std.specs.Hash as fed;
+ghost use Rattle.std.specs.Cmp.{partial_equiv_from_equiv};
+ghost use Rattle.std.specs.Cmp.Lexicographic.{pointwise, slice_cmp, nat_list_cmp_total, nat_list_eq_equiv, texts_po, texts_ties};
 ghost use Rattle.sx_values.specs.Texts.{is_text, is_printable, null_word};
+ghost use Rattle.sx_values.specs.ValueLaws.{same_bytes_fed};
 ghost use Rattle.sx_values.specs.TextFaults.{text_fault};
 ghost use Rattle.sx_lists.specs.Answers.{RefusesBy};
 
+use crate::shared::shared_bytes;
 use std::alloc::{AllocError, Global};
+use std::cmp::Ordering;
+use std::hash::{Hash, Hasher};
 use std::marker::Model;
-use sx_lists::{Copied, List, Same, bytes_of};
+use std::sync::Arc;
+use sx_lists::{Copied, List, Same};
 
-/// Up to 64 printable bytes that aren't the word `NULL`.
-#[derive(Debug, Drop, PartialEq, Eq, Hash, PartialOrd, Ord)]
+/// Up to 64 printable bytes that aren't the word `NULL`. Its copies share its bytes.
+#[derive(Debug, Drop)]
 pub struct Text {
-    bytes: List<u8>,
+    bytes: Arc<List<u8>>,
 }
 
 impl Model for Text {
@@ -24,11 +33,9 @@ impl Model for Text {
 
     ghost coded = { coded_list coded_ℕ };
 
-    ghost view = { λ t. t.bytes };
+    ghost view = { λ t. t.bytes.value };
 
-    ghost invariant = { λ t. IsTrue (is_text t.bytes) };
-
-    ghost inverse = { λ bytes. record { bytes = bytes } };
+    ghost invariant = { λ t. IsTrue (is_text t.bytes.value) };
 }
 
 /// Why bytes are no text.
@@ -53,7 +60,7 @@ impl Text {
         if let Some(fault) = fault_of(bytes) {
             return Err(fault);
         }
-        match bytes_of(alloc, bytes) {
+        match shared_bytes(alloc, bytes) {
             Ok(bytes) => Ok(Text { bytes }),
             Err(_) => Err(TextFault::Memory),
         }
@@ -68,16 +75,64 @@ impl Text {
     }
 }
 
+impl PartialEq for Text {
+    ghost eq = { pointwise nat_eq };
+
+    ghost laws = { partial_equiv_from_equiv nat_list_eq_equiv };
+
+    fn eq(&self, other: &Self) -> bool {
+        *self.bytes == *other.bytes
+    }
+}
+
+impl Eq for Text {
+    ghost laws = { nat_list_eq_equiv };
+}
+
+impl PartialOrd for Text {
+    ghost partial_cmp = { λ text other. Some (slice_cmp nat_cmp text other) };
+
+    ghost laws = { texts_po };
+
+    fn partial_cmp(&self, other: &Self) -> Option<Ordering> {
+        Some(self.cmp(other))
+    }
+}
+
+impl Ord for Text {
+    ghost cmp = { slice_cmp nat_cmp };
+
+    ghost total = { nat_list_cmp_total };
+
+    ghost matches_partial_cmp = { λ text other. refl };
+
+    ghost matches_eq = { λ text other. texts_ties text other };
+
+    fn cmp(&self, other: &Self) -> Ordering {
+        (*self.bytes).cmp(&*other.bytes)
+    }
+}
+
+impl Hash for Text {
+    ghost hash_input = { λ bytes. fed.slice fed.u8 bytes };
+
+    ghost respects_eq = { same_bytes_fed };
+
+    fn hash<H: Hasher>(&self, state: &mut H) {
+        (*self.bytes).hash(state);
+    }
+}
+
 impl Copied for Text {
-    fn copy(&self, alloc: Global) -> Result<Self, AllocError> {
-        let bytes = bytes_of(alloc, self.bytes.as_slice())?;
+    fn copy(&self, _alloc: Global) -> Result<Self, AllocError> {
+        let bytes = self.bytes.clone()?;
         Ok(Text { bytes })
     }
 }
 
 impl Same for Text {
     fn is_same(&self, other: &Self) -> bool {
-        self.bytes.is_same(&other.bytes)
+        (*self.bytes).is_same(&*other.bytes)
     }
 }
 

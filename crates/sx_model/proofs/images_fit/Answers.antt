@@ -1,4 +1,4 @@
-use Rattle.sx_model.proofs.ImageLaws.{images_fit}
+use Rattle.sx_model.proofs.FitLaws.{images_fit}
 use Rattle.sx_model.proofs.images_fit.Goals as goal
 
 pub returns : goal.returns

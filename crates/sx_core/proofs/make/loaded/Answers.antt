@@ -6,8 +6,7 @@ use Rattle.sx_values.specs.declared.catalog.Declared.{Declared}
 use Rattle.sx_values.specs.Names.{same_name}
 use Rattle.sx_values.specs.Catalogs.{table_names}
 use Rattle.sx_core.specs.Loading.{empty_table}
-use Rattle.sx_core.proofs.MakeLemmas.{loading_starts, loading_failed, loading_goes_on, loading_over}
-use Rattle.sx_core.proofs.ExchangeLemmas.{nothing_left}
+use Rattle.sx_core.proofs.MakeLemmas.{loading_starts, loading_failed, loading_goes_on, loading_over, nothing_left}
 use Rattle.sx_core.proofs.make.loaded.Goals as goal
 
 pub empty_tables-requires : goal.empty_tables-requires

@@ -1,4 +1,4 @@
-use Rattle.std.proofs.Common.{◌≡◌, ◌++◌, ◌∷◌, ◌&&◌, ◌+◌, [], map, drop, sym, ap, ◌∙◌}
+use Rattle.std.proofs.Common.{◌++◌, ◌∷◌, ◌&&◌, ◌+◌, map, drop, sym, ap, ◌∙◌}
 use Rattle.std.proofs.Math.ListN.{drop_of_length-le}
 use Rattle.csv.specs.Writing.{default_writer, fields_text, row_body}
 use Rattle.sx_text.specs.Records.{are_values, field_of}

@@ -17,5 +17,5 @@ invariant_of-result c =
       living = c.new.ensures.living;
       begun = c.new.ensures.begun;
     } in
-    made_kept c.args.catalog c.args.rows c.in_ok-tables.field-0 c.len.result c.new-2.result.newest (fields c.new.result c.new-2.result.spare c.new-3.result.newest c.new-4.result Idle None c.start.result)
-    c.in_ok-tables.ensures new c.len.ensures c.new-2.ensures c.new-3.ensures c.new-4.ensures refl
+    made_kept c.args.catalog c.args.rows c.in_ok-tables.field-0 c.len.result c.new-2.result.newest (fields c.new.result c.new-2.result.spare c.new-3.result.newest c.in_ok-known.known Idle None c.start.result 0)
+    c.in_ok-tables.ensures new c.new.ensures.tables c.len.ensures c.new-2.ensures c.new-3.ensures c.in_ok-known.ensures refl refl refl

@@ -7,11 +7,11 @@ use Rattle.sx_core.proofs.machine.Core.note.Goals as goal
 pub invariant_of-self-2 : goal.invariant_of-self-2
 invariant_of-self-2 c =
     let i = c.self.inside in
-    let f = fields i.manager i.journal.spare i.clients.newest i.new_tables i.phase i.spec i.cursor in
-    let g = fields i.manager c.append.new.self.spare i.clients.newest i.new_tables i.phase i.spec i.cursor in
+    let f = fields i.manager i.journal.spare i.clients.newest i.known i.phase i.spec i.cursor i.position in
+    let g = fields i.manager c.append.new.self.spare i.clients.newest i.known i.phase i.spec i.cursor i.position in
     let holds : Holds i.catalog i.loads i.journal.newest f c.args.self.now = record { within = c.self.invariant.0; kept = c.self.invariant.1; view = c.self.view_is } in
     let room : length i.clients.newest ≤ c.append.new.self.spare = omega (arith, c.in_ok-reserve.ensures.room, c.append.ensures.room, c.room_and.ensures) in
-    let beside : Beside f g = record { new_tables = refl; now = refl; room = room } in
+    let beside : Beside f g = record { known = refl; now = refl; spec = refl; cursor = refl; position = refl; room = room } in
     let longer = c.append.ensures.item ∙ ap (λ l. client_entry c.args.actor c.args.request c.args.reply ∷ l) c.reserve.ensures.items in
     let t = noted i.catalog i.loads i.journal.newest c.append.new.self.newest f g c.args.self.now c.args.actor c.args.request c.args.reply holds c.requires.comes c.requires.place c.requires.answered c.requires.quiet (unchanged i.manager) refl beside longer in
     (t.within, t.kept)
@@ -19,11 +19,11 @@ invariant_of-self-2 c =
 pub returns : goal.returns
 returns c =
     let i = c.self.inside in
-    let f = fields i.manager i.journal.spare i.clients.newest i.new_tables i.phase i.spec i.cursor in
-    let g = fields i.manager c.append.new.self.spare i.clients.newest i.new_tables i.phase i.spec i.cursor in
+    let f = fields i.manager i.journal.spare i.clients.newest i.known i.phase i.spec i.cursor i.position in
+    let g = fields i.manager c.append.new.self.spare i.clients.newest i.known i.phase i.spec i.cursor i.position in
     let holds : Holds i.catalog i.loads i.journal.newest f c.args.self.now = record { within = c.self.invariant.0; kept = c.self.invariant.1; view = c.self.view_is } in
     let room : length i.clients.newest ≤ c.append.new.self.spare = omega (arith, c.in_ok-reserve.ensures.room, c.append.ensures.room, c.room_and.ensures) in
-    let beside : Beside f g = record { new_tables = refl; now = refl; room = room } in
+    let beside : Beside f g = record { known = refl; now = refl; spec = refl; cursor = refl; position = refl; room = room } in
     let longer = c.append.ensures.item ∙ ap (λ l. client_entry c.args.actor c.args.request c.args.reply ∷ l) c.reserve.ensures.items in
     let t = noted i.catalog i.loads i.journal.newest c.append.new.self.newest f g c.args.self.now c.args.actor c.args.request c.args.reply holds c.requires.comes c.requires.place c.requires.answered c.requires.quiet (unchanged i.manager) refl beside longer in
     let told = told_as i.catalog i.loads c.append.new.self.newest g c.args.self.now c.args.actor (Client c.args.request) c.args.reply c.in_ok-answer.answer c.in_ok-answer.ensures t in

@@ -9,7 +9,7 @@ use Rattle.sx_script.proofs.parser.Parser.with_client.Goals as goal
 pub invariant_of-self : goal.invariant_of-self
 invariant_of-self c =
     let s = c.self.inside in
-    let P : List Line → Type 0 = λ lines. Keeps lines s.catalog s.places.keys s.is_changed true s.is_counted in
+    let P : List Line → Type 0 = λ lines. Keeps lines s.catalog s.known s.places.keys true s.is_counted s.is_ruled in
     let pushed : c.push.new.self.items ≡ s.lines.items ++ Client c.args.n c.args.what ∷ [] = c.in_ok-push.ensures.items in
     let is : is_client c.args.n ≡ true = sym c.is_client.ensures ∙ c.if-not-is_client.false in
-    subst P (sym pushed) (keeps_client s.lines.items s.catalog s.places.keys s.is_changed s.is_started s.is_counted c.args.n c.args.what c.self.invariant is)
+    subst P (sym pushed) (keeps_client s.lines.items s.catalog s.known s.places.keys s.is_started s.is_counted s.is_ruled c.args.n c.args.what c.self.invariant is)

@@ -1,4 +1,4 @@
-use Rattle.std.proofs.Common.{Some, sym, ap, ◌∙◌, Option, option_map}
+use Rattle.std.proofs.Common.{Some, sym, ap, ◌∙◌, option_map}
 use Rattle.sx_values.specs.Layouts.{Layout}
 use Rattle.sx_heap.specs.Relations.{Relation}
 use Rattle.sx_txn.specs.Managed.{Managed, schema_in}

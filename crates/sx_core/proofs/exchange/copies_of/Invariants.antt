@@ -1,6 +1,0 @@
-use Rattle.std.proofs.Common.{◌≡◌, ◌++◌, drop, map}
-use Rattle.sx_core.proofs.exchange.copies_of.Given as goal
-
-abbrev pub invariant-loop-row : goal.invariant-loop-row
-invariant-loop-row l =
-    l.copies ++ map (λ row. row.now) (drop l.row-index l.rows) ≡ map (λ row. row.now) l.rows

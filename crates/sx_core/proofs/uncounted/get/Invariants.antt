@@ -1,4 +1,0 @@
-use Rattle.sx_core.proofs.uncounted.get.Given as goal
-
-abbrev pub ghosts-counted_get : goal.ghosts-counted_get
-ghosts-counted_get a = record { name = a.blank.name; parts = a.blank.parts }

@@ -1,4 +1,0 @@
-use Rattle.sx_core.proofs.uncounted.rows.Given as goal
-
-abbrev pub ghosts-counted_rows : goal.ghosts-counted_rows
-ghosts-counted_rows a = record { name = a.blank.name; parts = a.blank.parts }

@@ -1,4 +1,0 @@
-use Rattle.sx_core.proofs.uncounted.walk.Given as goal
-
-abbrev pub ghosts-counted_walk : goal.ghosts-counted_walk
-ghosts-counted_walk a = record { name = a.blank.name; parts = a.blank.parts }
