@@ -1,9 +1,9 @@
 -- The rows of a map's entries: at a key, in order, and between bounds.
-use Rattle.std.proofs.Common.{◌≡◌, ◌↔◌, IsTrue, ◌∷◌, ◌++◌, [], ◌+◌, ◌&&◌, IsSome, ℕ, zero, suc, List, Bool, true, false, Option, Some, None, option_map, is_some, refl, sym, ap, ◌∙◌, subst, cond, map, take, drop, All}
+use Rattle.std.proofs.Common.{◌≡◌, ◌↔◌, IsTrue, ◌∷◌, ◌++◌, [], ◌+◌, ◌&&◌, IsSome, ℕ, zero, suc, List, Bool, true, false, Option, Some, None, option_map, is_some, refl, sym, ap, ◌∙◌, subst, cond, map, take, drop, All, true≢false}
 use Rattle.std.specs.Map.{lookup, keys_of, values_of, set_value}
 use Rattle.std.specs.BTreeMap.{is_at, insert_entry}
 use Rattle.std.specs.BTreeMap.Range.{entries_between}
-use Rattle.std.specs.Ordering.{is_eq, match_ordering}
+use Rattle.std.specs.Ordering.{is_eq, is_lt, match_ordering}
 use Rattle.std.specs.declared.cmp.Ordering.{Ordering}
 use Rattle.std.specs.declared.cmp.Ordering.TheVariants.{Less, Equal, Greater}
 use Rattle.std.specs.declared.ops.Bound.TheVariants.{Unbounded}
@@ -133,3 +133,17 @@ rows_of-none (e ∷ es) over h = (λ t. absurd (filled (h.0 t)), λ none. absurd
 pub bare_rows_of : (es : List (List Value × Stamped)) → map (λ (s : Stamped). s.row) (values_of es) ≡ map (λ (s : Seen). s.row) (rows_of es)
 bare_rows_of [] = refl
 bare_rows_of (e ∷ es) = ap (λ rows. e.1.row ∷ rows) (bare_rows_of es)
+
+apart_from : (last key other : List Value) → values_cmp last key ≡ Less → is_lt (values_cmp last other) ≡ false → is_at (values_cmp key) other ≡ false
+apart_from last key other below not = by (values_cmp key other) refl
+  where
+    by : (r : Ordering) → values_cmp key other ≡ r → is_eq r ≡ false
+    by Less e = refl
+    by Greater e = refl
+    by Equal e = absurd (true≢false (sym (ap is_lt (ap (values_cmp last) (sym (values_tie key other e)) ∙ below)) ∙ not))
+
+-- a key above one that no key is above isn't there
+pub none_behind : (es : List (List Value × Stamped)) (last key : List Value) → values_cmp last key ≡ Less → All (λ q. is_lt (values_cmp last q) ≡ false) (keys_of es) → lookup (is_at (values_cmp key)) es ≡ None
+none_behind [] last key below all = refl
+none_behind (e ∷ es) last key below all =
+    rw (apart_from last key e.0 below (All-head (λ q. is_lt (values_cmp last q) ≡ false) e.0 (keys_of es) all)) (none_behind es last key below (All-tail (λ q. is_lt (values_cmp last q) ≡ false) e.0 (keys_of es) all))

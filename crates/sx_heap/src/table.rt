@@ -1,5 +1,5 @@
 // A table: its rows by key.
-ghost use Rattle.std.specs.Prelude.{◌≡◌, ◌==◌, ◌+◌, ◌≤◌, [], Some, None, not, length, map, option_map, take, drop, IfOk, OnOk, OnErr, IsOk, IsSome, is_some, if◌then◌else◌};
+ghost use Rattle.std.specs.Prelude.{◌≡◌, ◌==◌, ◌+◌, ◌≤◌, [], Some, None, not, length, map, option_map, take, drop, IfOk, OnOk, OnErr, IsOk, IsSome, IsTrue, is_some, if◌then◌else◌};
 ghost use Rattle.std.specs.List.{AllByRecursion};
 ghost use Rattle.std.specs.List.Sorted.{IsStrictlySortedBy};
 ghost use Rattle.sx_values.specs.Values.{values_cmp};
@@ -108,6 +108,9 @@ impl Table {
         ensures counted { steps.new ≡ (if is_some result then steps.old + 1 else steps.old) }
         ensures relation { IsRelation self.now }
     {
+        if is_behind_all(&self.rows, key) {
+            return None;
+        }
         match self.rows.get(key) {
             Some(stamped) => Some(stamped.handed_out(steps)),
             None => None,
@@ -242,6 +245,17 @@ impl Stamped {
         let key = key.copy(alloc)?;
         let row = row.copy(alloc)?;
         Ok(Seen { key, row, lsn })
+    }
+}
+
+// Whether a key stands behind all that are there. So do those of rows that come in key order, for which a search would
+// compare the key with most of those on its way.
+fn is_behind_all(rows: &BTreeMap<Key, Stamped>, key: &Key) -> bool
+    ensures { IsTrue result → row_at (rows_of rows.now.entries) key.now ≡ None }
+{
+    match rows.last_key_value() {
+        Some((last, _)) => last.cmp(key).is_lt(),
+        None => false,
     }
 }
 
